@@ -23,7 +23,7 @@ pub record Content : Type 0 where
   pub file : Place → Option File
 
 -- a sector of zeros
-abbrev pub zero_sector : List ℕ
+unfoldable pub zero_sector : List ℕ
 zero_sector = replicate 512 0
 
 -- the k-th sector of some bytes

@@ -2,5 +2,7 @@
 #![tactic(auto)]
 
 mod disk;
+mod refusal;
 
 pub use disk::{DiskAnswer, SharedDisk};
+pub use refusal::refusal_for;
