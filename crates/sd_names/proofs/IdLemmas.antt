@@ -1,9 +1,8 @@
 -- The text of an identifier and its sixteen bytes determine each other.
-use Rattle.std.proofs.Common.{◌≡◌, ℕ, ◌+◌, ◌-◌, ◌*◌, ◌/◌, ◌%◌, ◌<◌, List, [], ◌∷◌, zero, suc, length, get_or, slice_index, map, All, Bool, true, false, Option, Some, None, ◌==◌, ◌&&◌, if◌then◌else◌, inl, arith, refl, sym, ap, ◌∙◌, unwrap_or}
+use Rattle.std.proofs.Common.{◌≡◌, ℕ, ◌+◌, ◌*◌, ◌/◌, ◌%◌, ◌<◌, List, [], ◌∷◌, zero, suc, length, get_or, slice_index, Bool, true, false, Option, Some, None, ◌==◌, ◌&&◌, if◌then◌else◌, inl, arith, refl, sym, ap, ◌∙◌}
 use Rattle.std.proofs.lemmas.Bool.{false≢true}
 use Rattle.std.proofs.lemmas.Bool.Decides.{nat_tests}
 use Rattle.std.proofs.lemmas.List.{get_or-map, get_or_default, length-map}
-use Rattle.std.proofs.lemmas.Grind.{common_steps}
 use Rattle.std.specs.Char.{to_ascii_lowercase}
 use Rattle.std.specs.List.{list_all}
 use Rattle.std.specs.Str.{IsAscii, str_to_ascii_lowercase}

@@ -1,5 +1,5 @@
 -- The text of an identifier.
-use Rattle.std.specs.Prelude.{◌≡◌, ℕ, ◌^◌, ◌<◌, List, length, All}
+use Rattle.std.specs.Prelude.{◌≡◌, ℕ, ◌<◌, List, length, All}
 use Rattle.std.specs.Str.{str_to_ascii_lowercase}
 use Rattle.uuid.specs.Text.{hyphenated_text, lower}
 
