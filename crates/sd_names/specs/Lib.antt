@@ -1,1 +1,4 @@
+pub mod Id
+pub mod Place
 pub mod Turn
+pub mod UpSet
