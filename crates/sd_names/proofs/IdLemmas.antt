@@ -9,7 +9,9 @@ use Rattle.std.specs.Str.{IsAscii, str_to_ascii_lowercase}
 use Rattle.uuid.specs.Text.{lower, hex_digit, nibble, is_hex_digit, value_of, byte_of_digits, hyphen_place, digit_place, is_hyphen_place, digits_of, has_hyphens, parsed, parsed_simple, parsed_hyphenated, by_index}
 use Rattle.uuid.proofs.TextLemmas.{by_index_length, by_index_at, by_index_same, nibble_even, nibble_odd, nibble_small, simple_some, hyphens_pass, hyphenated_ascii}
 use Rattle.uuid.proofs.RoundTrips.{parses_hyphenated}
-use Rattle.sd_names.specs.Id.{IsIdBytes, ReadsAs, id_text}
+use Rattle.std.specs.Option.{option_map}
+use Rattle.sd_names.specs.Id.{IsIdBytes, ReadsAs, id_text, id_of}
+use Rattle.sd_names.specs.declared.id.Id.{Id}
 
 pub id_text-length : (bytes : List ℕ) → length (id_text bytes) ≡ 36
 id_text-length bytes = by_index_length 36 _
@@ -172,3 +174,14 @@ reads_itself bytes =
 -- two readings of one text are one
 pub read_once : (s a b : List ℕ) → Some a ≡ parsed s → Some b ≡ parsed s → a ≡ b
 read_once s a b is_a is_b = let e : Some a ≡ Some b = is_a ∙ sym is_b in cc
+
+none_unless : (o : Option (List ℕ)) → (((u : List ℕ) × (o ≡ Some u)) → ⊥) → o ≡ None
+none_unless None h = refl
+none_unless (Some u) h = absurd (h (u, refl))
+
+-- a text of 36 bytes that doesn't parse is no identifier's
+pub id_of_none : (text : List ℕ) → length text ≡ 36 → (((u : List ℕ) × (parsed text ≡ Some u)) → ⊥) → None ≡ id_of text
+unfolding id_of
+id_of_none text long h =
+    let none = rw long at (none_unless (parsed text) h) in
+    rw long (ap (option_map (λ bytes. record { 0 = bytes })) (sym none))

@@ -1,7 +1,7 @@
 // Identifiers: the sixteen bytes of RFC 9562, and their hyphenated text.
 ghost use Rattle.std.specs.Prelude.{◌≡◌, ◌≢◌, ℕ, List, length, IfSome, IfNone, Some};
 ghost use Rattle.std.specs.Str.{IsAscii};
-ghost use Rattle.sd_names.specs.Id.{IsIdBytes, ReadsAs, id_text};
+ghost use Rattle.sd_names.specs.Id.{IsIdBytes, ReadsAs, id_text, id_of};
 
 use std::fmt;
 use uuid::Uuid;
@@ -16,7 +16,9 @@ impl Id {
     pub const ZERO: Id = Id([0; 16]);
 
     /// The identifier of a hyphenated text of 36 bytes (RFC 9562, section 4), in either case.
+    #[tactic(auto, unfolding(crate::specs::Id::id_of))]
     pub fn read(text: &[u8]) -> Option<Id>
+        ensures value { result ≡ id_of text.now }
         ensures read { IfSome result (λ id. ReadsAs text.now id.0) }
         ensures found { (bytes : List ℕ) → IsIdBytes bytes → ReadsAs text.now bytes → result ≡ Some (record { 0 = bytes }) }
         ensures refused { IfNone result ((bytes : List ℕ) → IsIdBytes bytes → ¬ ReadsAs text.now bytes) }

@@ -1,6 +1,6 @@
 use Rattle.std.proofs.Common.{arith, sym, refl}
 use Rattle.std.proofs.lemmas.Bool.{false≢true}
-use Rattle.sd_names.proofs.IdLemmas.{reads_length, parsed_from_reads, reads_from_parsed, read_once}
+use Rattle.sd_names.proofs.IdLemmas.{id_of_none, reads_length, parsed_from_reads, reads_from_parsed, read_once}
 use Rattle.sd_names.proofs.id.Id.read.Goals as goal
 
 pub returns-then-text-ne36-clause-refused : goal.returns-then-text-ne36-clause-refused
@@ -24,3 +24,7 @@ returns-then-text-ne36-clause-found c = λ bytes is reads. absurd (c.if-text-ne3
 pub returns-in-Err-clause-found : goal.returns-in-Err-clause-found
 returns-in-Err-clause-found c =
     λ bytes is reads. absurd (false≢true (c.in-Err.ensures.ok.1 (bytes, sym (parsed_from_reads _ bytes is reads))))
+
+pub returns-in-Err-clause-value : goal.returns-in-Err-clause-value
+returns-in-Err-clause-value c =
+    id_of_none c.args.text.now (omega arith) (λ found. false≢true (c.in-Err.ensures.ok.1 found))
