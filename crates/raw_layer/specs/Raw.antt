@@ -108,9 +108,15 @@ left_of (Begun known) = 3
 left_of Fits = 2
 left_of Written = 1
 
--- the write comes nearer to its end
-abbrev pub Falls : RawWrite → Turn RawWrite (Unit {0}) (Unit {0}) → Type 0
-Falls w turn = MatchTurn turn (λ next. left_of (state_of next) < left_of (state_of w)) (λ _. Unit {0}) (λ _ _. Unit {0})
+-- the next state of a write is of the same place, and nearer to its end
+pub record Nears (w next : RawWrite) : Type 0 where
+  pub place : write_place next ≡ write_place w
+  pub from : write_from next ≡ write_from w
+  pub falls : left_of (state_of next) < left_of (state_of w)
+
+-- whatever the disk tells, a write goes on with its place and comes to its end
+abbrev pub GoesToEnd : RawWrite → Turn RawWrite (Unit {0}) (Unit {0}) → Type 0
+GoesToEnd w turn = MatchTurn turn (λ next. Nears w next) (λ _. Unit {0}) (λ _ _. Unit {0})
 
 -- A refusal of a raw file is one of three: for want of room, an absence, or a fault with the new count, which rose.
 abbrev pub IsCause : ℕ → ℕ → Refusal → Type 0

@@ -29,7 +29,7 @@ pub struct RawWrite {
 }
 
 impl RawWrite {
-    ghost use Rattle.raw_layer.specs.Raw.{WriteSteps, Falls, WritesPart, AsksLength, SyncsFile, Counts, place_of, known_length_of, write_place, write_from, state_of};
+    ghost use Rattle.raw_layer.specs.Raw.{WriteSteps, GoesToEnd, GoesOn, WritesPart, AsksLength, SyncsFile, Counts, place_of, known_length_of, write_place, write_from, state_of};
 
     /// A write from the offset `at` on, in bytes and a multiple of 512.
     pub fn begin(raw: &Raw, at: u64) -> RawWrite
@@ -56,7 +56,7 @@ impl RawWrite {
         requires piece { IsPiece (length part.now) }
         requires end { write_from self + length part.now < 2 ^ 64 }
         ensures counts { Counts (D.faults disk.old) (D.faults disk.new) (D.calls disk.old) (D.calls disk.new) result }
-        ensures falls { Falls self result }
+        ensures keeps { GoesToEnd self result }
         ensures content { Told (D.content disk.old) (D.content disk.new) (WriteSteps (state_of self) self host (D.faults disk.new) part.now result) }
     {
         match self.state {
@@ -76,7 +76,7 @@ impl RawWrite {
     fn write<D: SharedDisk>(self, host: HostId, disk: &mut D, part: &[u8]) -> Turn<RawWrite, (), ()>
         requires { IsPiece (length part.now) }
         ensures counts { Counts (D.faults disk.old) (D.faults disk.new) (D.calls disk.old) (D.calls disk.new) result }
-        ensures next { MatchTurn result (λ next. state_of next ≡ State.Written) (λ _. ⊥) (λ _ _. Unit {0}) }
+        ensures next { MatchTurn result (λ next. GoesOn self next State.Written) (λ _. ⊥) (λ _ _. Unit {0}) }
         ensures content { Told (D.content disk.old) (D.content disk.new) (WritesPart self host (D.faults disk.new) part.now result) }
     {
         match disk.write_at(host, self.place, self.at, part) {
@@ -93,7 +93,7 @@ impl RawWrite {
     fn ask<D: SharedDisk>(self, host: HostId, disk: &mut D, count: u64) -> Turn<RawWrite, (), ()>
         requires { write_from self + count < 2 ^ 64 }
         ensures counts { Counts (D.faults disk.old) (D.faults disk.new) (D.calls disk.old) (D.calls disk.new) result }
-        ensures next { MatchTurn result (λ next. state_of next ≡ State.Fits) (λ _. ⊥) (λ _ _. Unit {0}) }
+        ensures next { MatchTurn result (λ next. GoesOn self next State.Fits) (λ _. ⊥) (λ _ _. Unit {0}) }
         ensures content { Told (D.content disk.old) (D.content disk.new) (AsksLength self (D.faults disk.new) count result) }
     {
         match disk.length(host, self.place) {

@@ -1,6 +1,7 @@
 -- What a shared folder holds: its folders and files, and what each host has written and not yet synced.
-use Rattle.std.specs.Prelude.{◌≡◌, ◌⊎◌, ℕ, zero, suc, ◌+◌, ◌*◌, Bool, List, [], ◌∷◌, Option, Some, None, unwrap_or, take, drop, replicate, ◌&&◌, ◌==◌, if◌then◌else◌, Contains}
+use Rattle.std.specs.Prelude.{true, false, ◌≡◌, ◌≢◌, ◌⊎◌, ℕ, zero, suc, ◌+◌, ◌*◌, Bool, List, [], ◌∷◌, Option, Some, None, unwrap_or, take, drop, replicate, ◌&&◌, ◌==◌, if◌then◌else◌, Contains}
 use Rattle.sd_names.specs.declared.place.Dir.{Dir}
+use Rattle.sd_names.specs.declared.place.Dir.TheVariants.{Root}
 use Rattle.sd_names.specs.declared.place.Place.{Place}
 
 -- one write of one sector, of 512 bytes, that its host hasn't synced
@@ -21,6 +22,12 @@ pub record File : Type 0 where
 pub record Content : Type 0 where
   pub dir : Dir → Bool
   pub file : Place → Option File
+
+-- no file, and no folder but Root
+pub record IsEmpty (d : Content) : Type 0 where
+  pub root : d.dir Root ≡ true
+  pub dirs : (q : Dir) → q ≢ Root → d.dir q ≡ false
+  pub files : (q : Place) → d.file q ≡ None
 
 -- a sector of zeros
 unfoldable pub zero_sector : List ℕ

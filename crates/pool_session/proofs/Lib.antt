@@ -1,0 +1,6 @@
+pub mod FolderLemmas
+pub mod FaultLemmas
+pub mod ImageLemmas
+pub mod WriteLemmas
+pub mod OwnLemmas
+pub mod TurnLemmas

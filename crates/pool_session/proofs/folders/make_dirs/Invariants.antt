@@ -1,0 +1,16 @@
+use Rattle.std.proofs.Common.{◌≡◌, ◌≤◌, ◌∷◌, [], List, Some, drop}
+use Rattle.sd_names.specs.declared.place.Dir.{Dir}
+use Rattle.sd_names.specs.declared.place.Dir.TheVariants.{Root}
+use Rattle.shared_disk.specs.Content.{Content}
+use Rattle.pool_session.specs.Folders.{HasJust, IsOrderly, with_made}
+use Rattle.pool_session.proofs.folders.make_dirs.Given as goal
+
+-- the folders so far are there, and those that are left can be made
+abbrev pub invariant-loop-dir : goal.invariant-loop-dir
+invariant-loop-dir g l =
+    let content = g.D.SharedDisk.content in
+    let faults = g.D.SharedDisk.faults in
+    (known : List Dir) × IsOrderly known (drop l.dir-index l.dirs)
+    × (with_made known (drop l.dir-index l.dirs) ≡ with_made (Root ∷ []) l.dirs)
+    × (faults l.fn.disk ≤ faults l.disk)
+    × ((d : Content) → content l.fn.disk ≡ Some d → HasJust (Root ∷ []) d → (e : Content) × (content l.disk ≡ Some e) × HasJust known e)

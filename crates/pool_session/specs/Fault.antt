@@ -1,0 +1,9 @@
+-- A refusal that comes of a fault of the disk.
+use Rattle.std.specs.Prelude.{◌≡◌, ℕ}
+use Rattle.sd_names.specs.declared.refusal.Refusal.{Refusal}
+use Rattle.sd_names.specs.declared.refusal.Refusal.TheVariants.{DiskFault}
+use Rattle.shared_disk.specs.Calls.{Rose}
+
+-- the disk's count of faults rose, and the refusal has the new one
+abbrev pub IsFault : ℕ → ℕ → Refusal → Type 0
+IsFault before after refusal = Rose before after × (refusal ≡ DiskFault after)

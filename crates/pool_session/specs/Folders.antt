@@ -1,0 +1,38 @@
+-- Which folders are there.
+use Rattle.std.specs.Prelude.{◌≡◌, ◌≢◌, ◌⊎◌, true, false, List, [], ◌∷◌, None}
+use Rattle.sd_names.specs.declared.id.Id.{Id}
+use Rattle.sd_names.specs.declared.place.Dir.{Dir}
+use Rattle.sd_names.specs.declared.place.Dir.TheVariants.{Root, Domain, DomMd, Images, Master, Tasks}
+use Rattle.sd_names.specs.declared.place.Place.{Place}
+use Rattle.shared_disk.specs.Content.{Content}
+use Rattle.shared_disk.specs.Calls.{parent_of}
+
+-- the folder is one of these
+abbrev pub IsAmong : List Dir → Dir → Type 0
+IsAmong [] q = ⊥
+IsAmong (dir ∷ dirs) q = (q ≡ dir) ⊎ IsAmong dirs q
+
+-- these folders are there and no others, and no file is
+pub record HasJust (dirs : List Dir) (d : Content) : Type 0 where
+  pub there : (q : Dir) → IsAmong dirs q → d.dir q ≡ true
+  pub only : (q : Dir) → (IsAmong dirs q → ⊥) → d.dir q ≡ false
+  pub files : (q : Place) → d.file q ≡ None
+
+-- The folders can be made one after the other where those of the first list are there: each stands in one that is there
+-- by then, and isn't there itself.
+abbrev pub IsOrderly : List Dir → List Dir → Type 0
+IsOrderly known [] = Unit {0}
+IsOrderly known (dir ∷ dirs) = (dir ≢ Root) × IsAmong known (parent_of dir) × (IsAmong known dir → ⊥) × IsOrderly (dir ∷ known) dirs
+
+-- those of the first list, and then each of the second
+abbrev pub with_made : List Dir → List Dir → List Dir
+with_made known [] = known
+with_made known (dir ∷ dirs) = with_made (dir ∷ known) dirs
+
+-- the folders of a domain, in the order in which they are made
+abbrev pub folders_of : Id → List Dir
+folders_of sd = Domain sd ∷ DomMd sd ∷ Images sd ∷ Master sd ∷ Tasks sd ∷ []
+
+-- the domain's folders and Root are there, and nothing else
+abbrev pub HasDomain : Id → Content → Type 0
+HasDomain sd d = HasJust (with_made (Root ∷ []) (folders_of sd)) d

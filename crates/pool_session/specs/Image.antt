@@ -1,0 +1,44 @@
+-- What the disk holds for the one image of the session: the folders of its domain, and the volume's file.
+use Rattle.std.specs.Prelude.{◌≡◌, ◌⊎◌, ℕ, ◌+◌, ◌-◌, ◌*◌, ◌/◌, ◌%◌, ◌≤◌, ◌^◌, List, [], length, Some, nat_le, nat_lt, ◌&&◌, if◌then◌else◌}
+use Rattle.sd_names.specs.declared.place.Dir.TheVariants.{Image as ImageDir}
+use Rattle.sd_names.specs.declared.place.Name.TheVariants.{Volume}
+use Rattle.sd_names.specs.declared.place.Place.{Place}
+use Rattle.shared_disk.specs.Content.{Content, File, sector_of, seen}
+use Rattle.pool_session.specs.declared.image.Image.{Image}
+
+-- the file of an image's volume
+abbrev pub file_of : Image → Place
+file_of image = record { dir = ImageDir image.sd image.image; name = Volume image.volume }
+
+-- a capacity that an image may have, in bytes
+pub record IsCapacity (capacity : ℕ) : Type 0 where
+  pub whole : capacity % 512 ≡ 0
+  pub least : 512 ≤ capacity
+  pub most : capacity ≤ 2 ^ 40
+
+-- the image's file is all on the medium and holds these sectors
+pub record HoldsFlat (image : Image) (flat : ℕ → List ℕ) (d : Content) : Type 0 where
+  pub file : File
+  pub there : d.file (file_of image) ≡ Some file
+  pub size : 512 * file.size ≡ image.capacity
+  pub synced : file.loose ≡ []
+  pub sectors : (k : ℕ) → file.stable k ≡ flat k
+
+-- the image's file reads as these sectors to host 1
+pub record SeenFlat (image : Image) (flat : ℕ → List ℕ) (d : Content) : Type 0 where
+  pub file : File
+  pub there : d.file (file_of image) ≡ Some file
+  pub size : 512 * file.size ≡ image.capacity
+  pub sectors : (k : ℕ) → seen 1 file k ≡ flat k
+
+-- sectors with some bytes laid over them, from a sector on
+abbrev pub laid : ℕ → List ℕ → (ℕ → List ℕ) → ℕ → List ℕ
+laid at bytes flat k = if nat_le at k && nat_lt k (at + length bytes / 512) then sector_of bytes (k - at) else flat k
+
+-- each sector is old or as the bytes laid over would make it
+abbrev pub Mixed : ℕ → List ℕ → (ℕ → List ℕ) → (ℕ → List ℕ) → Type 0
+Mixed at bytes old new = (k : ℕ) → (new k ≡ old k) ⊎ (new k ≡ laid at bytes old k)
+
+-- these bytes are the sectors from this one on
+abbrev pub ReadsFlat : ℕ → (ℕ → List ℕ) → List ℕ → Type 0
+ReadsFlat at flat bytes = (k : ℕ) → 512 * (k + 1) ≤ length bytes → sector_of bytes k ≡ flat (at + k)

@@ -1,0 +1,135 @@
+// The one image of the session: how its volume's file is made, read and written.
+ghost use Rattle.std.specs.Prelude.{◌≡◌, ℕ, ◌+◌, ◌/◌, ◌≤◌, ◌^◌, ◌<◌, List, true, None, length, MatchResult};
+ghost use Rattle.shared_disk.specs.Content.{Content, File, zero_sector};
+ghost use Rattle.shared_disk.specs.Calls.{IsAligned, IsPiece, created, synced};
+ghost use Rattle.pool_session.specs.Fault.{IsFault};
+ghost use Rattle.pool_session.specs.Folders.{HasDomain};
+
+use crate::folders::make_dir;
+use raw_layer::{Raw, RawRead, RawWrite};
+use sd_names::{Dir, HostId, Id, Name, Place, Refusal, Turn};
+use shared_disk::{SharedDisk, refusal_for};
+
+/// An image of one raw volume: its domain, its own identifier, its volume's, and its capacity in bytes.
+#[derive(Clone, Copy, Debug)]
+pub struct Image {
+    pub sd: Id,
+    pub image: Id,
+    pub volume: Id,
+    pub capacity: u64,
+}
+
+impl Image {
+    ghost use Rattle.pool_session.specs.Image.{file_of, IsCapacity, HoldsFlat, SeenFlat, Mixed, ReadsFlat, laid};
+
+    /// The file of the image's volume.
+    pub fn place(&self) -> Place
+        ensures { result ≡ file_of self.now }
+    {
+        Place {
+            dir: Dir::Image(self.sd, self.image),
+            name: Name::Volume(self.volume),
+        }
+    }
+
+    /// Makes the image's folder and its volume's file of zeros, synced. Where the disk tells that it holds the folders of
+    /// the domain alone, it is refused only for a fault of the disk.
+    pub fn create<D: SharedDisk>(&self, host: HostId, disk: &mut D) -> Result<(), Refusal>
+        requires { IsCapacity self.now.capacity }
+        ensures count { D.faults disk.old ≤ D.faults disk.new }
+        ensures content { (d : Content) → D.content disk.old ≡ Some d → HasDomain self.now.sd d
+            → (e : Content) × (D.content disk.new ≡ Some e)
+            × MatchResult result (λ _. HoldsFlat self.now (λ _. zero_sector) e) (λ refusal. IsFault (D.faults disk.old) (D.faults disk.new) refusal) }
+    {
+        make_dir(host, Dir::Image(self.sd, self.image), disk)?;
+        create_file(host, self.place(), self.capacity, disk)
+    }
+
+    /// Reads a part from the offset `at` on, both in bytes and multiples of 512, inside the capacity.
+    pub fn read<D: SharedDisk>(
+        &self,
+        host: HostId,
+        at: u64,
+        part: &mut [u8],
+        disk: &mut D,
+    ) -> Result<(), Refusal>
+        requires aligned { IsAligned at }
+        requires piece { IsPiece (length part.old) }
+        requires within { at + length part.old ≤ self.now.capacity }
+        ensures count { D.faults disk.old ≤ D.faults disk.new }
+        ensures content { (d : Content) (flat : ℕ → List ℕ) → D.content disk.old ≡ Some d → HoldsFlat self.now flat d
+            → (D.content disk.new ≡ Some d)
+            × MatchResult result (λ _. ReadsFlat (at / 512) flat part.new) (λ refusal. IsFault (D.faults disk.old) (D.faults disk.new) refusal) }
+    {
+        let raw = Raw::new(self.place(), self.capacity, self.capacity);
+        match RawRead::begin(&raw, at).step(host, disk, part) {
+            Turn::More(_) => unreachable!(),
+            Turn::Done(()) => Ok(()),
+            Turn::Ended((), refusal) => Err(refusal),
+        }
+    }
+
+    /// Writes a part from the offset `at` on, both in bytes and multiples of 512, inside the capacity, and syncs it. Where
+    /// a fault of the disk cuts it, each sector of the part is old or new.
+    pub fn write<D: SharedDisk>(
+        &self,
+        host: HostId,
+        at: u64,
+        part: &[u8],
+        disk: &mut D,
+    ) -> Result<(), Refusal>
+        requires aligned { IsAligned at }
+        requires piece { IsPiece (length part.now) }
+        requires within { at + length part.now ≤ self.now.capacity }
+        ensures count { D.faults disk.old ≤ D.faults disk.new }
+        ensures content { (d : Content) (flat : ℕ → List ℕ) → host ≡ 1 → D.content disk.old ≡ Some d → HoldsFlat self.now flat d
+            → (e : Content) × (D.content disk.new ≡ Some e)
+            × MatchResult result
+            (λ _. HoldsFlat self.now (laid (at / 512) part.now flat) e)
+            (λ refusal. IsFault (D.faults disk.old) (D.faults disk.new) refusal
+            × (mixed : ℕ → List ℕ) × Mixed (at / 512) part.now flat mixed × SeenFlat self.now mixed e) }
+    {
+        let raw = Raw::new(self.place(), self.capacity, self.capacity);
+        let mut write = RawWrite::begin(&raw, at);
+        loop {
+            match write.step(host, disk, part) {
+                Turn::More(next) => write = next,
+                Turn::Done(()) => return Ok(()),
+                Turn::Ended((), refusal) => return Err(refusal),
+            }
+        }
+    }
+}
+
+/// Makes a file of zeros and syncs it. Where the disk tells that the folder is there and the file isn't, it is refused
+/// only for a fault of the disk.
+fn create_file<D: SharedDisk>(
+    host: HostId,
+    place: Place,
+    size: u64,
+    disk: &mut D,
+) -> Result<(), Refusal>
+    requires { IsAligned size }
+    ensures count { D.faults disk.old ≤ D.faults disk.new }
+    ensures content { (d : Content) → D.content disk.old ≡ Some d → d.dir place.dir ≡ true → d.file place ≡ None
+        → (e : Content) × (D.content disk.new ≡ Some e)
+        × MatchResult result (λ _. e.file place ≡ Some (synced host (created host (size / 512)))) (λ refusal. IsFault (D.faults disk.old) (D.faults disk.new) refusal) }
+{
+    match disk.create(host, place, size) {
+        Ok(()) => sync_file(host, place, disk),
+        Err(answer) => Err(refusal_for(answer, disk)),
+    }
+}
+
+/// Syncs a file. Where the disk tells that it is there, it is refused only for a fault of the disk.
+fn sync_file<D: SharedDisk>(host: HostId, place: Place, disk: &mut D) -> Result<(), Refusal>
+    ensures count { D.faults disk.old ≤ D.faults disk.new }
+    ensures content { (d : Content) (f : File) → D.content disk.old ≡ Some d → d.file place ≡ Some f
+        → (e : Content) × (D.content disk.new ≡ Some e)
+        × MatchResult result (λ _. e.file place ≡ Some (synced host f)) (λ refusal. IsFault (D.faults disk.old) (D.faults disk.new) refusal) }
+{
+    match disk.sync(host, place) {
+        Ok(()) => Ok(()),
+        Err(answer) => Err(refusal_for(answer, disk)),
+    }
+}
