@@ -18,7 +18,9 @@ pub use host::HostId;
 pub use id::{Id, id_text_is_injective, id_text_reads_as_itself};
 pub use kinds::{AllocKind, Format, Legality, Role, VolType};
 pub use lists::{Answers, Bytes, Ids, TaskState, Tasks};
-pub use place::{Dir, Name, PathText, Place};
+pub use place::{
+    Dir, Name, PathText, Place, dir_order_is_total, name_order_is_total, place_order_is_total,
+};
 pub use push::{push_all, push_id, push_number};
 pub use refusal::Refusal;
 pub use turn::{Absence, Failed, NoMemory, Turn};
