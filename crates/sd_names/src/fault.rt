@@ -163,8 +163,8 @@ impl Key {
 }
 
 impl DomainFault {
-    /// The words in which a refusal prints the fault.
-    pub fn values(&self) -> Values
+    /// The values that a refusal prints for the fault.
+    pub(crate) fn values(&self) -> Values
         ensures texts { value_texts result ≡ domain_fault_words self.now }
         ensures short { AreShort result }
     {

@@ -26,5 +26,4 @@ pub use push::{push_all, push_id, push_number};
 pub use refusal::{REFUSAL_ROOM, Refusal, RefusalText, push_refusal};
 pub use turn::{Absence, Failed, NoMemory, Turn};
 pub use up_set::UpSet;
-pub use value::{Value, Values};
 pub use verb::{Payload, Verb, VerbName};
