@@ -1,5 +1,5 @@
 -- The text of an identifier and its sixteen bytes determine each other.
-use Rattle.std.proofs.Common.{◌≡◌, ℕ, ◌+◌, ◌*◌, ◌/◌, ◌%◌, ◌<◌, List, [], ◌∷◌, zero, suc, length, get_or, slice_index, Bool, true, false, Option, Some, None, ◌==◌, ◌&&◌, if◌then◌else◌, inl, arith, refl, sym, ap, ◌∙◌}
+use Rattle.std.proofs.Common.{◌≡◌, ◌⊎◌, inr, ℕ, ◌+◌, ◌*◌, ◌/◌, ◌%◌, ◌<◌, List, [], ◌∷◌, zero, suc, length, get_or, slice_index, Bool, true, false, Option, Some, None, ◌==◌, ◌&&◌, if◌then◌else◌, inl, arith, refl, sym, ap, ◌∙◌}
 use Rattle.std.proofs.lemmas.Bool.{false≢true}
 use Rattle.std.proofs.lemmas.Bool.Decides.{nat_tests}
 use Rattle.std.proofs.lemmas.List.{get_or-map, get_or_default, length-map}
@@ -154,6 +154,9 @@ reads_from_parsed s u long is_u =
     by_index_same (str_to_ascii_lowercase s) 36 (byte_at u) (length-map s to_ascii_lowercase ∙ long)
     (λ k d within. lowered_at s k d (rw long within) ∙ at k within)
 
+digit_above : (d : ℕ) → d < 16 → 47 < hex_digit lower d
+digit_above d small = grind (arith, nat_tests)
+
 lowered_digit : (d : ℕ) → d < 16 → to_ascii_lowercase (hex_digit lower d) ≡ hex_digit lower d
 lowered_digit d small = grind (arith, nat_tests)
 
@@ -185,3 +188,11 @@ unfolding id_of
 id_of_none text long h =
     let none = rw long at (none_unless (parsed text) h) in
     rw long (ap (option_map (λ bytes. record { 0 = bytes })) (sym none))
+
+-- no byte of the text is a slash or a dot
+pub id_text-apart : (bytes : List ℕ) (k : ℕ) → k < 36 → 47 < get_or (id_text bytes) k 0 ⊎ get_or (id_text bytes) k 0 ≡ 45
+id_text-apart bytes k within = rw (id_text-at bytes k within) (go (is_hyphen_place k))
+  where
+    go : (b : Bool) → (47 < (if b then 45 else hex_digit lower (nibble bytes (digit_place k)))) ⊎ ((if b then 45 else hex_digit lower (nibble bytes (digit_place k))) ≡ 45)
+    go true = inr refl
+    go false = inl (digit_above (nibble bytes (digit_place k)) (nibble_small bytes (digit_place k)))

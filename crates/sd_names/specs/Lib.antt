@@ -1,4 +1,8 @@
+pub mod Fault
 pub mod Id
+pub mod Key
 pub mod Place
 pub mod Turn
+pub mod Refusal
 pub mod UpSet
+pub mod Value

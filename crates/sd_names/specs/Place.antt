@@ -3,7 +3,7 @@ use Rattle.std.specs.Prelude.{ℕ, List, [], ◌∷◌, ◌++◌, ◌==◌, leng
 use Rattle.std.specs.Ordering.{nat_cmp, ordering_then}
 use Rattle.std.specs.Cmp.Lexicographic.{slice_cmp}
 use Rattle.std.specs.declared.cmp.Ordering.{Ordering}
-use Rattle.sd_names.specs.Id.{id_text}
+use Rattle.sd_names.specs.Id.{IsIdBytes, id_text}
 use Rattle.sd_names.specs.declared.place.Dir.{Dir}
 use Rattle.sd_names.specs.declared.place.Dir.TheVariants.{Root, Domain, DomMd, Images, Image, Removed, Master, Tasks}
 use Rattle.sd_names.specs.declared.place.Name.{Name}
@@ -59,3 +59,31 @@ name_cmp a b = ordering_then (path_cmp (name_text a) (name_text b)) (nat_cmp (na
 
 abbrev pub place_cmp : Place → Place → Ordering
 place_cmp a b = ordering_then (path_cmp (place_path a) (place_path b)) (nat_cmp (name_rank a.name) (name_rank b.name))
+
+-- a folder and a name whose identifiers have sixteen bytes, as all of a program have
+abbrev pub DirHasIds : Dir → Type 0
+DirHasIds Root = Unit {0}
+DirHasIds (Domain sd) = IsIdBytes sd.0
+DirHasIds (DomMd sd) = IsIdBytes sd.0
+DirHasIds (Images sd) = IsIdBytes sd.0
+DirHasIds (Image sd image) = IsIdBytes sd.0 × IsIdBytes image.0
+DirHasIds (Removed sd image) = IsIdBytes sd.0 × IsIdBytes image.0
+DirHasIds (Master sd) = IsIdBytes sd.0
+DirHasIds (Tasks sd) = IsIdBytes sd.0
+
+abbrev pub NameHasIds : Name → Type 0
+NameHasIds Metadata = Unit {0}
+NameHasIds MetadataNew = Unit {0}
+NameHasIds Leases = Unit {0}
+NameHasIds Inbox = Unit {0}
+NameHasIds Outbox = Unit {0}
+NameHasIds (Volume v) = IsIdBytes v.0
+NameHasIds (Meta v) = IsIdBytes v.0
+NameHasIds (MetaNew v) = IsIdBytes v.0
+NameHasIds (MetaVolatile v) = IsIdBytes v.0
+NameHasIds (VolumeLease v) = IsIdBytes v.0
+NameHasIds (Task t) = IsIdBytes t.0
+NameHasIds (TaskNew t) = IsIdBytes t.0
+
+abbrev pub PlaceHasIds : Place → Type 0
+PlaceHasIds p = DirHasIds p.dir × NameHasIds p.name

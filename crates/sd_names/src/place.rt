@@ -1,7 +1,11 @@
 // Folders and files of a shared folder.
 ghost use Rattle.std.specs.Prelude.{◌≡◌, ◌↔◌, ◌≤◌, ◌+◌, ◌++◌, length, IsTrue};
+ghost use Rattle.std.specs.Cmp.{IsTotalOrder};
 ghost use Rattle.sd_names.specs.Id.{id_text};
-ghost use Rattle.sd_names.specs.Place.{dir_path, name_text, place_path, name_rank, dir_cmp, name_cmp, place_cmp};
+ghost use Rattle.sd_names.specs.Place.{dir_path, name_text, place_path, name_rank, dir_cmp, name_cmp, place_cmp, DirHasIds, NameHasIds, PlaceHasIds};
+ghost use Rattle.sd_names.specs.declared.place.Dir.{Dir};
+ghost use Rattle.sd_names.specs.declared.place.Name.{Name};
+ghost use Rattle.sd_names.specs.declared.place.Place.{Place};
 
 use crate::Id;
 use arrayvec::ArrayString;
@@ -23,8 +27,9 @@ fn id_then(id: &Id, rest: &str) -> PathText
     text
 }
 
-fn push_id(text: &mut PathText, id: &Id)
-    requires room { length text.old.bytes ≤ 60 }
+/// Pushes the 36 bytes of an identifier's text.
+pub fn push_id(text: &mut PathText, id: &Id)
+    requires room { length text.old.bytes + 36 ≤ 160 }
     ensures bytes { text.new.bytes ≡ text.old.bytes ++ id_text id.now.0 }
     ensures len { length text.new.bytes ≡ length text.old.bytes + 36 }
 {
@@ -122,6 +127,22 @@ impl Dir {
         self == other
     }
 
+    /// The folder's identifiers have sixteen bytes. It does nothing: a proof that needs the fact calls it.
+    #[inline]
+    pub fn has_ids(&self)
+        ensures { DirHasIds self.now }
+    {
+        match self {
+            Dir::Root => {}
+            Dir::Domain(sd) | Dir::DomMd(sd) | Dir::Images(sd) | Dir::Master(sd) | Dir::Tasks(sd) =>
+                sd.has_sixteen_bytes(),
+            Dir::Image(sd, image) | Dir::Removed(sd, image) => {
+                sd.has_sixteen_bytes();
+                image.has_sixteen_bytes();
+            }
+        }
+    }
+
     /// The folder's path below the shared folder, whose own is empty.
     pub fn path(&self) -> PathText
         ensures bytes { result.bytes ≡ dir_path self.now }
@@ -141,8 +162,11 @@ impl Dir {
 
     /// Compares the bytes of the two paths.
     pub fn cmp(&self, other: &Dir) -> Ordering
-        ensures { result ≡ dir_cmp self.now other.now }
+        ensures order { result ≡ dir_cmp self.now other.now }
+        ensures equal { (result ≡ Ordering.Equal) ↔ (self.now ≡ other.now) }
     {
+        self.has_ids();
+        other.has_ids();
         let path = self.path();
         let other_path = other.path();
         path.as_bytes().cmp(&other_path.as_bytes())
@@ -155,6 +179,23 @@ impl Name {
         ensures { IsTrue result ↔ (self.now ≡ other.now) }
     {
         self == other
+    }
+
+    /// The name's identifier has sixteen bytes. It does nothing: a proof that needs the fact calls it.
+    #[inline]
+    pub fn has_ids(&self)
+        ensures { NameHasIds self.now }
+    {
+        match self {
+            Name::Metadata | Name::MetadataNew | Name::Leases | Name::Inbox | Name::Outbox => {}
+            Name::Volume(id)
+            | Name::Meta(id)
+            | Name::MetaNew(id)
+            | Name::MetaVolatile(id)
+            | Name::VolumeLease(id)
+            | Name::Task(id)
+            | Name::TaskNew(id) => id.has_sixteen_bytes(),
+        }
     }
 
     /// The name's text.
@@ -181,8 +222,11 @@ impl Name {
     /// Compares the bytes of the two names. A volume comes before a task of the same name, which can't
     /// stand in its folder.
     pub fn cmp(&self, other: &Name) -> Ordering
-        ensures { result ≡ name_cmp self.now other.now }
+        ensures order { result ≡ name_cmp self.now other.now }
+        ensures equal { (result ≡ Ordering.Equal) ↔ (self.now ≡ other.now) }
     {
+        self.has_ids();
+        other.has_ids();
         let text = self.text();
         let other_text = other.text();
         text.as_bytes()
@@ -209,6 +253,15 @@ impl Place {
         self.dir.is(&other.dir) && self.name.is(&other.name)
     }
 
+    /// The place's identifiers have sixteen bytes. It does nothing: a proof that needs the fact calls it.
+    #[inline]
+    pub fn has_ids(&self)
+        ensures { PlaceHasIds self.now }
+    {
+        self.dir.has_ids();
+        self.name.has_ids();
+    }
+
     /// The file's path below the shared folder.
     pub fn path(&self) -> PathText
         ensures bytes { result.bytes ≡ place_path self.now }
@@ -225,8 +278,11 @@ impl Place {
 
     /// Compares the bytes of the two paths. A volume comes before a task of the same path.
     pub fn cmp(&self, other: &Place) -> Ordering
-        ensures { result ≡ place_cmp self.now other.now }
+        ensures order { result ≡ place_cmp self.now other.now }
+        ensures equal { (result ≡ Ordering.Equal) ↔ (self.now ≡ other.now) }
     {
+        self.has_ids();
+        other.has_ids();
         let path = self.path();
         let other_path = other.path();
         path.as_bytes()
@@ -234,6 +290,24 @@ impl Place {
             .then(self.name.rank().cmp(&other.name.rank()))
     }
 }
+
+/// Folders are in a total order, in which equal folders are one.
+pub fn dir_order_is_total()
+    ensures total { IsTotalOrder dir_cmp }
+    ensures equal { (a b : Dir) → DirHasIds a → DirHasIds b → dir_cmp a b ≡ Ordering.Equal → a ≡ b }
+{}
+
+/// Names are in a total order, in which equal names are one.
+pub fn name_order_is_total()
+    ensures total { IsTotalOrder name_cmp }
+    ensures equal { (a b : Name) → NameHasIds a → NameHasIds b → name_cmp a b ≡ Ordering.Equal → a ≡ b }
+{}
+
+/// Files are in a total order, in which equal files are one.
+pub fn place_order_is_total()
+    ensures total { IsTotalOrder place_cmp }
+    ensures equal { (a b : Place) → PlaceHasIds a → PlaceHasIds b → place_cmp a b ≡ Ordering.Equal → a ≡ b }
+{}
 
 #[cfg(test)]
 mod tests {
