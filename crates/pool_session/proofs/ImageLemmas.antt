@@ -5,7 +5,8 @@ use Rattle.sd_names.specs.declared.place.Dir.TheVariants.{Root, Domain, DomMd, I
 use Rattle.shared_disk.specs.Content.{Content, zero_sector}
 use Rattle.shared_disk.specs.Calls.{created, synced}
 use Rattle.pool_session.specs.declared.image.Image.{Image}
-use Rattle.pool_session.specs.Image.{HoldsFlat, IsCapacity, file_of}
+use Rattle.pool_session.specs.Capacity.{IsCapacity}
+use Rattle.pool_session.specs.Image.{HoldsFlat, file_of}
 use Rattle.pool_session.specs.Folders.{IsAmong, folders_of, with_made}
 
 -- the images folder is one of the domain's

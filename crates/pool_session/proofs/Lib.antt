@@ -4,3 +4,5 @@ pub mod ImageLemmas
 pub mod WriteLemmas
 pub mod OwnLemmas
 pub mod TurnLemmas
+pub mod CommandLemmas
+pub mod StreamLemmas

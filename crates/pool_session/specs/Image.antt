@@ -10,12 +10,6 @@ use Rattle.pool_session.specs.declared.image.Image.{Image}
 abbrev pub file_of : Image → Place
 file_of image = record { dir = ImageDir image.sd image.image; name = Volume image.volume }
 
--- a capacity that an image may have, in bytes
-pub record IsCapacity (capacity : ℕ) : Type 0 where
-  pub whole : capacity % 512 ≡ 0
-  pub least : 512 ≤ capacity
-  pub most : capacity ≤ 2 ^ 40
-
 -- the image's file is all on the medium and holds these sectors
 pub record HoldsFlat (image : Image) (flat : ℕ → List ℕ) (d : Content) : Type 0 where
   pub file : File

@@ -2,6 +2,7 @@
 ghost use Rattle.std.specs.Prelude.{◌≡◌, ℕ, ◌+◌, ◌/◌, ◌≤◌, ◌^◌, ◌<◌, List, true, None, length, MatchResult};
 ghost use Rattle.shared_disk.specs.Content.{Content, File, zero_sector};
 ghost use Rattle.shared_disk.specs.Calls.{IsAligned, IsPiece, created, synced};
+ghost use Rattle.pool_session.specs.Capacity.{IsCapacity};
 ghost use Rattle.pool_session.specs.Fault.{IsFault};
 ghost use Rattle.pool_session.specs.Folders.{HasDomain};
 
@@ -20,7 +21,7 @@ pub struct Image {
 }
 
 impl Image {
-    ghost use Rattle.pool_session.specs.Image.{file_of, IsCapacity, HoldsFlat, SeenFlat, Mixed, ReadsFlat, laid};
+    ghost use Rattle.pool_session.specs.Image.{file_of, HoldsFlat, SeenFlat, Mixed, ReadsFlat, laid};
 
     /// The file of the image's volume.
     pub fn place(&self) -> Place

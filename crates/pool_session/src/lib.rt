@@ -1,5 +1,12 @@
 //! A session: the lines of a script, run one after the other over a shared disk, and their replies.
 #![tactic(auto)]
 
+mod command;
 mod folders;
 mod image;
+mod memory;
+mod stream;
+mod words;
+
+pub use memory::{MemorySink, MemorySource};
+pub use stream::{Sink, Source};

@@ -1,0 +1,151 @@
+// Streams in memory, that fail where they are told to.
+ghost use Rattle.std.specs.Prelude.{◌≡◌, ◌<◌, ◌≤◌, [], length, take, IfOk, vec_len, vec_capacity};
+
+
+use crate::{Sink, Source};
+use sd_names::{Failed, NoMemory, push_all};
+use std::alloc::Global;
+
+/// Bytes in memory. It gives them in pieces, and fails in the calls that it is told to fail in.
+#[derive(Drop)]
+pub struct MemorySource {
+    bytes: Vec<u8>,
+    at: usize,
+    pieces: Vec<usize>,
+    failing: Vec<u64>,
+    calls: u64,
+    faults: u64,
+    ghost within: { at ≤ vec_len bytes },
+}
+
+impl MemorySource {
+    ghost use Rattle.pool_session.specs.Memory.{source_left, source_faults};
+
+    /// A source of these bytes. The n-th read gives at most as many bytes as `pieces` says, where 0 counts as 1; past its
+    /// end a read gives as many as fit. The reads whose numbers, from 0, stand in `failing` fail.
+    pub fn new(bytes: Vec<u8>, pieces: Vec<usize>, failing: Vec<u64>) -> MemorySource
+        ensures left { source_left result ≡ bytes.items }
+        ensures faults { source_faults result ≡ 0 }
+    {
+        MemorySource {
+            bytes,
+            at: 0,
+            pieces,
+            failing,
+            calls: 0,
+            faults: 0,
+        }
+    }
+
+    // How many bytes the next read gives at most.
+    fn most(&self) -> usize
+        ensures { 0 < result }
+    {
+        match self.pieces.get(self.calls_made()) {
+            Some(most) => (*most).max(1),
+            None => usize::MAX,
+        }
+    }
+
+    fn calls_made(&self) -> usize {
+        self.calls as usize
+    }
+}
+
+impl Source for MemorySource {
+    ghost use Rattle.std.specs.Prelude.{Some};
+    ghost use Rattle.pool_session.specs.Memory.{source_left, source_faults};
+
+    ghost left = { λ s. Some (source_left s) };
+
+    ghost faults = { source_faults };
+
+    fn read(&mut self, into: &mut [u8]) -> Result<usize, Failed> {
+        let faults = self.faults;
+        let most = self.most();
+        let fails = self.failing.contains(&self.calls);
+        self.calls = self.calls.saturating_add(1);
+        if fails {
+            self.faults = faults.saturating_add(1);
+            return Err(Failed);
+        }
+        let count = copy_front(&self.bytes[self.at..], into, most);
+        self.at += count;
+        Ok(count)
+    }
+}
+
+/// Copies bytes to the front of some room, at most so many, and answers how many.
+fn copy_front(bytes: &[u8], into: &mut [u8], most: usize) -> usize
+    requires { 0 < most }
+    ensures count { result ≤ length bytes.now }
+    ensures bound { result ≤ length into.old }
+    ensures front { take result into.new ≡ take result bytes.now }
+    ensures end { result ≡ 0 → 0 < length into.old → bytes.now ≡ [] }
+{
+    let count = most.min(into.len()).min(bytes.len());
+    into[..count].copy_from_slice(&bytes[..count]);
+    count
+}
+
+/// Room in memory for the bytes that are given. It fails in the calls that it is told to fail in, and where it is full.
+#[derive(Drop)]
+pub struct MemorySink {
+    bytes: Vec<u8>,
+    room: usize,
+    failing: Vec<u64>,
+    calls: u64,
+    faults: u64,
+    ghost within: { vec_len bytes ≤ room },
+    ghost reserved: { room ≤ vec_capacity bytes },
+}
+
+impl MemorySink {
+    ghost use Rattle.pool_session.specs.Memory.{sink_given, sink_faults};
+
+    /// A sink with room for so many bytes. The writes whose numbers, from 0, stand in `failing` fail.
+    pub fn new(alloc: Global, room: usize, failing: Vec<u64>) -> Result<MemorySink, NoMemory>
+        ensures given { IfOk result (λ sink. sink_given sink ≡ []) }
+        ensures faults { IfOk result (λ sink. sink_faults sink ≡ 0) }
+    {
+        match Vec::with_capacity(alloc, room) {
+            Ok(bytes) => Ok(MemorySink {
+                bytes,
+                room,
+                failing,
+                calls: 0,
+                faults: 0,
+            }),
+            Err(_) => Err(NoMemory),
+        }
+    }
+
+    /// The bytes that were given.
+    pub fn bytes(&self) -> &[u8]
+        ensures { result.now ≡ sink_given self.now }
+    {
+        &self.bytes
+    }
+}
+
+impl Sink for MemorySink {
+    ghost use Rattle.std.specs.Prelude.{Some};
+    ghost use Rattle.pool_session.specs.Memory.{sink_given, sink_faults};
+
+    ghost given = { λ s. Some (sink_given s) };
+
+    ghost faults = { sink_faults };
+
+    fn write(&mut self, piece: &[u8]) -> Result<usize, Failed> {
+        let faults = self.faults;
+        let fails = self.failing.contains(&self.calls);
+        self.calls = self.calls.saturating_add(1);
+        let count = piece.len().min(self.room - self.bytes.len());
+        if fails || (count == 0 && !piece.is_empty()) {
+            self.faults = faults.saturating_add(1);
+            return Err(Failed);
+        }
+        push_all(&mut self.bytes, &piece[..count]);
+        Ok(count)
+    }
+}
