@@ -6,3 +6,4 @@ pub mod OwnLemmas
 pub mod TurnLemmas
 pub mod CommandLemmas
 pub mod StreamLemmas
+pub mod MachineLemmas

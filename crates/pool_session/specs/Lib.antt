@@ -1,8 +1,11 @@
+pub mod Answer
 pub mod Capacity
 pub mod Command
 pub mod Fault
 pub mod Folders
 pub mod Image
+pub mod Machine
 pub mod Memory
+pub mod Reply
 pub mod Stream
 pub mod Words

@@ -1,5 +1,6 @@
 // The one image of the session: how its volume's file is made, read and written.
-ghost use Rattle.std.specs.Prelude.{◌≡◌, ℕ, ◌+◌, ◌/◌, ◌≤◌, ◌^◌, ◌<◌, List, true, None, length, MatchResult};
+ghost use lib.Pointwise.{pointwise};
+ghost use Rattle.std.specs.Prelude.{◌&&◌, nat_eq, ◌≡◌, ℕ, ◌+◌, ◌/◌, ◌≤◌, ◌^◌, ◌<◌, List, true, None, length, MatchResult};
 ghost use Rattle.shared_disk.specs.Content.{Content, File, zero_sector};
 ghost use Rattle.shared_disk.specs.Calls.{IsAligned, IsPiece, created, synced};
 ghost use Rattle.pool_session.specs.Capacity.{IsCapacity};
@@ -22,6 +23,13 @@ pub struct Image {
 
 impl Image {
     ghost use Rattle.pool_session.specs.Image.{file_of, HoldsFlat, SeenFlat, Mixed, ReadsFlat, laid};
+
+    /// Whether this is the image of that domain and identifier.
+    pub fn is_named(&self, sd: &Id, image: &Id) -> bool
+        ensures { result ≡ (pointwise nat_eq sd.now.0 self.now.sd.0 && pointwise nat_eq image.now.0 self.now.image.0) }
+    {
+        *sd == self.sd && *image == self.image
+    }
 
     /// The file of the image's volume.
     pub fn place(&self) -> Place

@@ -4,7 +4,10 @@
 mod command;
 mod folders;
 mod image;
+mod machine;
 mod memory;
+mod reply;
+mod stage;
 mod stream;
 mod words;
 

@@ -1,0 +1,148 @@
+-- The flat machine of the first path: how it answers a command, and what the disk holds for it.
+use Rattle.std.specs.Prelude.{◌≡◌, ◌⊎◌, ℕ, ◌+◌, ◌-◌, ◌*◌, ◌/◌, ◌%◌, ◌^◌, ◌<◌, ◌≤◌, ◌&&◌, ◌||◌, min, Bool, true, false, List, [], ◌∷◌, ◌++◌, length, Option, Some, None, MatchOption, MatchBool, nat_eq, nat_le, decimal, if◌then◌else◌}
+use lib.Pointwise.{pointwise}
+use Rattle.sd_names.specs.Id.{id_text}
+use Rattle.sd_names.specs.declared.id.Id.{Id}
+use Rattle.sd_names.specs.declared.refusal.Refusal.{Refusal}
+use Rattle.sd_names.specs.declared.refusal.Refusal.TheVariants.{NotBuilt, OutOfRange, Unaligned, DiskFault}
+use Rattle.script_lines.specs.Printed.{printed}
+use Rattle.shared_disk.specs.Content.{Content, IsEmpty, zero_sector}
+use Rattle.shared_disk.specs.Calls.{Rose}
+use Rattle.pool_session.specs.Answer.{Answer, plain, done, refused, is_refusal}
+use Rattle.pool_session.specs.Capacity.{IsCapacity}
+use Rattle.pool_session.specs.Command.{Asked}
+use Rattle.pool_session.specs.Folders.{HasDomain}
+use Rattle.pool_session.specs.Image.{HoldsFlat, SeenFlat, ReadsFlat, Mixed, laid}
+use Rattle.pool_session.specs.declared.command.Command.{Command}
+use Rattle.pool_session.specs.declared.command.Command.TheVariants as command
+use Rattle.pool_session.specs.declared.stage.Act.{Act}
+use Rattle.pool_session.specs.declared.stage.Act.TheVariants as act
+use Rattle.pool_session.specs.declared.image.Image.{Image}
+use Rattle.pool_session.specs.declared.stage.Stage.{Stage}
+use Rattle.pool_session.specs.declared.stage.Stage.TheVariants.{Off, Up, Pooled, Managed, Created, Opened, Stopped}
+
+-- The stage that is reached, the sectors of the image as one flat list, the disk's count of faults, and whether some
+-- reply was a refusal.
+pub record State : Type 0 where
+  pub stage : Stage
+  pub flat : ℕ → List ℕ
+  pub faults : ℕ
+  pub refusals : Bool
+
+-- whether two identifiers are one
+abbrev pub same_id : Id → Id → Bool
+same_id a b = pointwise nat_eq a.0 b.0
+
+-- What a command comes to at a stage, if the stage waits for it and it names the same domain and image.
+abbrev pub act_of : Stage → Command → Option Act
+act_of Off (command.Boot) = Some act.Boot
+act_of Up (command.MakePool sd) = Some (act.MakePool sd)
+act_of (Pooled known) (command.SpmStart sd) = if same_id sd known then Some (act.SpmStart known) else None
+act_of (Managed known) (command.Create image) = if same_id image.sd known then Some (act.Create (record image { sd = known })) else None
+act_of (Created known) (command.Open sd image) = if same_id sd known.sd && same_id image known.image then Some (act.Open known) else None
+act_of (Opened known) (command.Write sd image at count) = if same_id sd known.sd && same_id image known.image then Some (act.Write known at count) else None
+act_of (Opened known) (command.Read sd image at count) = if same_id sd known.sd && same_id image known.image then Some (act.Read known at count) else None
+act_of _ _ = None
+
+-- Why a part is refused: it isn't on sectors, or its end, kept as 2^64 - 1 where it is above that, is past the capacity.
+abbrev pub part_refusal : ℕ → ℕ → ℕ → Option Refusal
+part_refusal at count capacity =
+    if nat_eq (at % 512) 0 && nat_eq (count % 512) 0
+    then (if nat_le (at + count) capacity then None else Some (OutOfRange (min (at + count) (2 ^ 64 - 1)) capacity))
+    else Some (Unaligned at count)
+
+-- the state behind an answer
+abbrev pub state_after : State → Stage → (ℕ → List ℕ) → ℕ → Answer → State
+state_after s stage flat faults answer = record { stage = stage; flat = flat; faults = faults; refusals = s.refusals || is_refusal answer }
+
+-- The machine gives this answer and goes on at a stage with these sectors.
+abbrev pub GoesOn : State → Stage → (ℕ → List ℕ) → Answer → Answer → State → Type 0
+GoesOn s stage flat wanted answer t = (answer ≡ wanted) × (s.faults ≤ t.faults) × (t ≡ state_after s stage flat t.faults answer)
+
+-- The disk has failed: its count rose, is told, and nothing more is built.
+abbrev pub Stops : State → Option Image → (ℕ → List ℕ) → Answer → State → Type 0
+Stops s image flat answer t = Rose s.faults t.faults × GoesOn s (Stopped image) flat (refused (DiskFault t.faults)) answer t
+
+-- the line isn't built
+abbrev pub IsNotBuilt : State → Answer → State → Type 0
+IsNotBuilt s answer t = GoesOn s s.stage s.flat (refused NotBuilt) answer t
+
+-- a read of the image gives its bytes, or the disk fails
+abbrev pub ReadsImage : State → Image → ℕ → ℕ → Answer → State → Type 0
+ReadsImage s image at count answer t =
+    ((bytes : List ℕ) × (length bytes ≡ count) × ReadsFlat (at / 512) s.flat bytes × GoesOn s (Opened image) s.flat (done (printed bytes)) answer t)
+    ⊎ Stops s (Some image) s.flat answer t
+
+-- a write lays its bytes over the image, or the disk fails, and each sector of it is old or new
+abbrev pub WritesImage : State → Image → ℕ → List ℕ → Answer → State → Type 0
+WritesImage s image at bytes answer t =
+    GoesOn s (Opened image) (laid (at / 512) bytes s.flat) plain answer t
+    ⊎ ((mixed : ℕ → List ℕ) × Mixed (at / 512) bytes s.flat mixed × Stops s (Some image) mixed answer t)
+
+-- a part is refused where it is, and else read or written
+abbrev pub OnPart : Option Refusal → State → Image → Answer → State → Type 0 → Type 0
+OnPart refusal s image answer t P = MatchOption refusal P (λ r. GoesOn s (Opened image) s.flat (refused r) answer t)
+
+-- what is due is done, with the bytes that it writes
+abbrev pub Acts : State → Act → List ℕ → Answer → State → Type 0
+Acts s act.Boot bytes answer t = GoesOn s Up s.flat plain answer t
+Acts s (act.MakePool sd) bytes answer t = GoesOn s (Pooled sd) s.flat plain answer t ⊎ Stops s None s.flat answer t
+Acts s (act.SpmStart sd) bytes answer t = GoesOn s (Managed sd) s.flat (done (decimal 1)) answer t
+Acts s (act.Create image) bytes answer t = GoesOn s (Created image) (λ _. zero_sector) plain answer t ⊎ Stops s None s.flat answer t
+Acts s (act.Open image) bytes answer t = GoesOn s (Opened image) s.flat (done (id_text image.volume.0 ++ 32 ∷ decimal image.capacity)) answer t
+Acts s (act.Write image at count) bytes answer t = OnPart (part_refusal at count image.capacity) s image answer t (WritesImage s image at bytes answer t)
+Acts s (act.Read image at count) bytes answer t = OnPart (part_refusal at count image.capacity) s image answer t (ReadsImage s image at count answer t)
+
+-- From a state, a line that isn't silent and asks for this may be answered so, and leave that state.
+abbrev pub Answers : State → Option Asked → Answer → State → Type 0
+Answers s asked answer t = MatchOption asked (IsNotBuilt s answer t)
+    (λ a. MatchOption (act_of s.stage a.0) (IsNotBuilt s answer t) (λ due. Acts s due a.1 answer t))
+
+-- what the disk holds at a stage
+abbrev pub Stands : Stage → (ℕ → List ℕ) → Content → Type 0
+Stands Off flat d = IsEmpty d
+Stands Up flat d = IsEmpty d
+Stands (Pooled sd) flat d = HasDomain sd d
+Stands (Managed sd) flat d = HasDomain sd d
+Stands (Created image) flat d = HoldsFlat image flat d
+Stands (Opened image) flat d = HoldsFlat image flat d
+Stands (Stopped None) flat d = Unit {0}
+Stands (Stopped (Some image)) flat d = SeenFlat image flat d
+
+-- what the disk has to hold for what is due
+abbrev pub StandsFor : Act → (ℕ → List ℕ) → Content → Type 0
+StandsFor act.Boot flat d = IsEmpty d
+StandsFor (act.MakePool sd) flat d = IsEmpty d
+StandsFor (act.SpmStart sd) flat d = HasDomain sd d
+StandsFor (act.Create image) flat d = HasDomain image.sd d
+StandsFor (act.Open image) flat d = HoldsFlat image flat d
+StandsFor (act.Write image at count) flat d = HoldsFlat image flat d
+StandsFor (act.Read image at count) flat d = HoldsFlat image flat d
+
+-- a capacity is one that an image may have, and a part has 1 to 65,536 bytes
+abbrev pub IsSoundAct : Act → Type 0
+IsSoundAct (act.Create image) = IsCapacity image.capacity
+IsSoundAct (act.Write image at count) = (1 ≤ count) × (count ≤ 65536)
+IsSoundAct (act.Read image at count) = (1 ≤ count) × (count ≤ 65536)
+IsSoundAct _ = Unit {0}
+
+-- how many bytes it writes
+abbrev pub written_by : Act → ℕ
+written_by (act.Write image at count) = count
+written_by _ = 0
+
+-- What was due is done from one content to another, and from one stage to another; `faults` are the disk's counts.
+abbrev pub ActsAt : Option Content → Option Content → Stage → Stage → ℕ → ℕ → Act → List ℕ → Answer → Type 0
+ActsAt before after stage stage' faults faults' due bytes answer =
+    (d : Content) (flat : ℕ → List ℕ) (refusals : Bool) → before ≡ Some d → StandsFor due flat d
+    → (e : Content) × (flat' : ℕ → List ℕ) × (after ≡ Some e) × Stands stage' flat' e
+        × Acts (record { stage = stage; flat = flat; faults = faults; refusals = refusals }) due bytes answer
+            (state_after (record { stage = stage; flat = flat; faults = faults; refusals = refusals }) stage' flat' faults' answer)
+
+-- a line was answered, likewise
+abbrev pub AnswersAt : Option Content → Option Content → Stage → Stage → ℕ → ℕ → Option Asked → Answer → Type 0
+AnswersAt before after stage stage' faults faults' asked answer =
+    (d : Content) (flat : ℕ → List ℕ) (refusals : Bool) → before ≡ Some d → Stands stage flat d
+    → (e : Content) × (flat' : ℕ → List ℕ) × (after ≡ Some e) × Stands stage' flat' e
+        × Answers (record { stage = stage; flat = flat; faults = faults; refusals = refusals }) asked answer
+            (state_after (record { stage = stage; flat = flat; faults = faults; refusals = refusals }) stage' flat' faults' answer)

@@ -1,0 +1,87 @@
+// How far the session has come.
+ghost use Rattle.std.specs.Prelude.{◌≡◌, Some, None, if◌then◌else◌};
+ghost use Rattle.pool_session.specs.Machine.{same_id};
+
+use crate::command::Command;
+use crate::image::Image;
+use sd_names::Id;
+
+/// The stage that a session has reached: the next line has to ask for what it waits for.
+#[derive(Clone, Copy, Debug)]
+pub enum Stage {
+    /// The host is off.
+    Off,
+    /// The host is up.
+    Up,
+    /// The pool of this domain is made.
+    Pooled(Id),
+    /// The host manages the pool of this domain.
+    Managed(Id),
+    /// The image is made.
+    Created(Image),
+    /// The image is open.
+    Opened(Image),
+    /// The disk has failed, with this image made or none.
+    Stopped(Option<Image>),
+}
+
+/// What a command comes to at the stage that waits for it.
+#[derive(Clone, Copy, Debug)]
+pub enum Act {
+    Boot,
+    MakePool(Id),
+    SpmStart(Id),
+    Create(Image),
+    Open(Image),
+    /// Writes so many bytes, from an offset on.
+    Write(Image, u64, usize),
+    /// Reads so many bytes, from an offset on.
+    Read(Image, u64, usize),
+}
+
+impl Stage {
+    ghost use Rattle.std.specs.Prelude.{◌≡◌, IfSome};
+    ghost use Rattle.pool_session.specs.Command.{IsSound};
+    ghost use Rattle.pool_session.specs.Machine.{act_of, IsSoundAct};
+
+    /// What a command comes to, if the stage waits for it and it names the same domain and image.
+    pub fn act(&self, command: &Command) -> Option<Act>
+        requires { IsSound command.now }
+        ensures act { result ≡ act_of self.now command.now }
+        ensures sound { IfSome result IsSoundAct }
+    {
+        match (self, command) {
+            (Stage::Off, Command::Boot) => Some(Act::Boot),
+            (Stage::Up, Command::MakePool(sd)) => Some(Act::MakePool(*sd)),
+            (Stage::Pooled(known), Command::SpmStart(sd)) => {
+                if sd == known { Some(Act::SpmStart(*known)) } else { None }
+            }
+            (Stage::Managed(known), Command::Create(image)) => create_in(known, image),
+            (Stage::Created(known), Command::Open(sd, image)) => {
+                if known.is_named(sd, image) { Some(Act::Open(*known)) } else { None }
+            }
+            (Stage::Opened(known), Command::Write(sd, image, at, count)) => {
+                if known.is_named(sd, image) { Some(Act::Write(*known, *at, *count)) } else { None }
+            }
+            (Stage::Opened(known), Command::Read(sd, image, at, count)) => {
+                if known.is_named(sd, image) { Some(Act::Read(*known, *at, *count)) } else { None }
+            }
+            _ => None,
+        }
+    }
+}
+
+/// Making an image comes to something in its own domain alone.
+fn create_in(known: &Id, image: &Image) -> Option<Act>
+    ensures { result ≡ (if same_id image.now.sd known.now then Some (Act.Create (record image.now { sd = known.now })) else None) }
+{
+    if image.sd != *known {
+        return None;
+    }
+    Some(Act::Create(Image {
+        sd: *known,
+        image: image.image,
+        volume: image.volume,
+        capacity: image.capacity,
+    }))
+}
