@@ -7,3 +7,4 @@ pub mod TurnLemmas
 pub mod CommandLemmas
 pub mod StreamLemmas
 pub mod MachineLemmas
+pub mod LineLemmas

@@ -4,8 +4,12 @@ pub mod Command
 pub mod Fault
 pub mod Folders
 pub mod Image
+pub mod Line
+pub mod Lines
 pub mod Machine
 pub mod Memory
 pub mod Reply
+pub mod Run
+pub mod Status
 pub mod Stream
 pub mod Words

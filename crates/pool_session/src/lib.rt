@@ -3,13 +3,17 @@
 
 mod command;
 mod folders;
+mod give;
 mod image;
+mod line;
 mod machine;
 mod memory;
 mod reply;
 mod stage;
+mod status;
 mod stream;
 mod words;
 
 pub use memory::{MemorySink, MemorySource};
+pub use status::Status;
 pub use stream::{Sink, Source};
