@@ -8,3 +8,4 @@ pub mod CommandLemmas
 pub mod StreamLemmas
 pub mod MachineLemmas
 pub mod LineLemmas
+pub mod RunLemmas

@@ -10,6 +10,7 @@ pub mod Machine
 pub mod Memory
 pub mod Reply
 pub mod Run
+pub mod Session
 pub mod Status
 pub mod Stream
 pub mod Words

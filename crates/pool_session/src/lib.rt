@@ -9,6 +9,7 @@ mod line;
 mod machine;
 mod memory;
 mod reply;
+mod session;
 mod stage;
 mod status;
 mod stream;
