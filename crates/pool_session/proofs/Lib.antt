@@ -9,3 +9,4 @@ pub mod StreamLemmas
 pub mod MachineLemmas
 pub mod LineLemmas
 pub mod RunLemmas
+pub mod EndLemmas

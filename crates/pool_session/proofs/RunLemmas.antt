@@ -89,12 +89,11 @@ module _ (number : ℕ) (s : State) (bytes before after : List ℕ) (m : ℕ) (t
       }
 
   -- a sink has failed in the reply to one more line
-  pub fed_broken : (rest first next now given : List ℕ) (u : State) → Fed number s bytes rest before after m t open_line → rest ≡ first ++ next → HasNoLf first → EndsLine next
-      → RunsLine (m + 1) t (open_line ++ first) now u → IsCut after now given → IsBroken number s bytes before given u
-  fed_broken rest first next now given u fed is no_lf ends ran cut = record {
+  pub fed_broken : (rest first next now given : List ℕ) (u : State) → Fed number s bytes rest before after m t open_line → rest ≡ first ++ next → HasNoLf first
+      → RunsLine (m + 1) t (open_line ++ first) now u → IsCut after now given → IsBroken number s bytes next before given u
+  fed_broken rest first next now given u fed is no_lf ran cut = record {
     lines = fed.lines;
     last = open_line ++ first;
-    rest = next;
     text = fed.text;
     mid = t;
     now = now;
@@ -102,7 +101,6 @@ module _ (number : ℕ) (s : State) (bytes before after : List ℕ) (m : ℕ) (t
       ∙ ap (λ (xs : List ℕ). flat_map ended fed.lines ++ xs) (sym (append_assoc open_line first next));
     each = fed.each;
     no_lf = All-append (λ byte. byte ≢ 10) open_line first fed.no_lf no_lf;
-    ends = ends;
     runs = fed.runs;
     runs_last = subst (λ k. RunsLine (k + 1) t (open_line ++ first) now u) fed.count ran;
     cut = subst (λ (xs : List ℕ). IsCut xs now given) fed.given cut;

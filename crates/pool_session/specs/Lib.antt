@@ -8,6 +8,7 @@ pub mod Line
 pub mod Lines
 pub mod Machine
 pub mod Memory
+pub mod Program
 pub mod Reply
 pub mod Run
 pub mod Session

@@ -1,6 +1,6 @@
 -- Runs of the machine over lines, and the text that they give.
 use Rattle.std.specs.List.{flat_map}
-use Rattle.std.specs.Prelude.{◌≡◌, ℕ, ◌+◌, ◌<◌, ◌≤◌, true, false, All, List, [], ◌∷◌, ◌++◌, length, Option, Some, MatchBool, MatchResult, Result}
+use Rattle.std.specs.Prelude.{◌≡◌, ℕ, ◌+◌, ◌<◌, ◌≤◌, true, false, All, take, List, [], ◌∷◌, ◌++◌, length, Option, Some, MatchBool, MatchResult, Result}
 use Rattle.sd_names.specs.declared.turn.Failed.{Failed}
 use Rattle.pool_session.specs.Answer.{Answer, reply_text}
 use Rattle.pool_session.specs.Command.{asked_of, is_silent}
@@ -51,18 +51,16 @@ EndsLine [] = Unit {0}
 EndsLine (byte ∷ bytes) = byte ≡ 10
 
 -- Of these bytes some lines have run and their text was given; then one more has run, and of its text a front was given that
--- lacks at least one byte.
-pub record IsBroken (number : ℕ) (s : State) (bytes before after : List ℕ) (t : State) : Type 0 where
+-- lacks at least one byte. Behind that line stands the rest.
+pub record IsBroken (number : ℕ) (s : State) (bytes rest before after : List ℕ) (t : State) : Type 0 where
   pub lines : List (List ℕ)
   pub last : List ℕ
-  pub rest : List ℕ
   pub text : List ℕ
   pub mid : State
   pub now : List ℕ
   pub whole : bytes ≡ flat_map ended lines ++ (last ++ rest)
   pub each : All HasNoLf lines
   pub no_lf : HasNoLf last
-  pub ends : EndsLine rest
   pub runs : Runs number s lines text mid
   pub runs_last : RunsLine (number + length lines + 1) mid last now t
   pub cut : IsCut (before ++ text) now after
@@ -100,6 +98,26 @@ Ends status.ReadFault s input left before after t =
     (taken : List ℕ) × (input ≡ taken ++ left) × (length taken ≤ most_input) × RanEnded s taken before after t
 Ends status.TooLong s input left before after t =
     (taken : List ℕ) × (byte : ℕ) × (input ≡ taken ++ byte ∷ left) × (length taken ≡ most_input) × RanEnded s taken before after t
-Ends status.WriteFault s input left before after t = IsBroken 0 s input before after t
+Ends status.WriteFault s input left before after t = (rest : List ℕ) × EndsLine rest × IsBroken 0 s input rest before after t
 Ends status.Memory s input left before after t = (left ≡ input) × (after ≡ before) × (t ≡ s)
 Ends status.Words s input left before after t = (left ≡ input) × (after ≡ before) × (t ≡ s)
+
+-- how the last line of the input ends a session: `before` and `after` are what the sink had before its text and has after it
+abbrev pub Finishes : Status → List ℕ → List ℕ → List ℕ → State → Type 0
+Finishes status.Done before text after t = (after ≡ before ++ text) × (t.refusals ≡ false)
+Finishes status.Refused before text after t = (after ≡ before ++ text) × (t.refusals ≡ true)
+Finishes status.WriteFault before text after t = IsCut before text after
+Finishes status.ReadFault before text after t = ⊥
+Finishes status.TooLong before text after t = ⊥
+Finishes status.Memory before text after t = ⊥
+Finishes status.Words before text after t = ⊥
+
+-- A piece of the input was moved to the front of the room, or none at the end; or the source has failed.
+abbrev pub Moves : List ℕ → List ℕ → List ℕ → Result ℕ Failed → Type 0
+Moves before after room result = MatchResult result
+    (λ count. (before ≡ take count room ++ after) × (count ≡ 0 → before ≡ []))
+    (λ _. after ≡ before)
+
+-- a front of the input was taken, of at most one byte more than a session runs
+abbrev pub TakesAtMost : List ℕ → Option (List ℕ) → Type 0
+TakesAtMost input now = (taken : List ℕ) × (left : List ℕ) × (now ≡ Some left) × (input ≡ taken ++ left) × (length taken ≤ most_input + 1)

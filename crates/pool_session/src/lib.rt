@@ -8,13 +8,16 @@ mod image;
 mod line;
 mod machine;
 mod memory;
+mod program;
 mod reply;
 mod session;
 mod stage;
 mod status;
 mod stream;
+
 mod words;
 
 pub use memory::{MemorySink, MemorySource};
 pub use status::Status;
 pub use stream::{Sink, Source};
+pub use program::vdsm;

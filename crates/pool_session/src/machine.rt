@@ -23,12 +23,21 @@ pub struct Machine {
 }
 
 impl Machine {
-    ghost use Rattle.std.specs.Prelude.{◌≡◌, ◌≤◌, [], ℕ, List, length, take, option_and_then, IfSome};
+    ghost use Rattle.std.specs.Prelude.{◌≡◌, ◌≤◌, [], ℕ, List, length, take, option_and_then, IfSome, IsSome};
     ghost use Rattle.std.specs.Option.{option_map};
     ghost use Rattle.pool_session.specs.Capacity.{IsCapacity};
     ghost use Rattle.pool_session.specs.Command.{IsSound, count_of};
     ghost use Rattle.pool_session.specs.Machine.{act_of, ActsAt, AnswersAt, IsSoundAct, written_by};
     ghost use Rattle.pool_session.specs.Reply.{IsPrintable, answer_of};
+
+    /// The machine before the first line: host 1, which is off.
+    pub fn new() -> Option<Machine>
+        ensures known { IsSome result }
+        ensures stage { IfSome result (λ machine. machine.stage ≡ Stage.Off) }
+    {
+        let host = HostId::new(1)?;
+        Some(Machine { host, stage: Stage::Off })
+    }
 
     /// Answers a command, or a line that asks for nothing.
     pub fn answer<D: SharedDisk>(&mut self, command: Option<Command>, room: &mut [u8], disk: &mut D) -> Reply
@@ -172,7 +181,7 @@ impl Machine {
 }
 
 /// So many bytes at the front of some room.
-fn front(room: &[u8], count: usize) -> &[u8]
+pub fn front(room: &[u8], count: usize) -> &[u8]
     requires { count ≤ length room.now }
     ensures front { result.now ≡ take count room.now }
     ensures length { length result.now ≡ count }

@@ -33,10 +33,10 @@ returns-in-Err-clause-fed g c flat line before reached holds no_lf given =
     let split = c.in-Some.ensures.line in
     let inv = c.loop-first.invariant.3 flat line before reached holds no_lf given in
     let ran = c.in-Err.ensures.ran inv.0 (inv.2 ++ c.in-Some.first.now) inv.1 inv.3 (c.push.ensures inv.2 inv.5) inv.4 in
-    (ran.0, ran.2, ran.3, ran.5,
+    (ran.0, ran.2, ran.3, ran.5, (c.in-Some.next.now,
      fed_broken c.args.self.now.number (state_of c.args.self.now flat (g.D.SharedDisk.faults c.args.disk.now)) (line ++ c.args.piece.now) before inv.1 c.loop-first.self.number
         (state_of c.loop-first.self inv.0 (g.D.SharedDisk.faults c.loop-first.disk)) inv.2
-        c.loop-first.rest.now c.in-Some.first.now (10 ∷ c.in-Some.next.now) ran.1 ran.2 (state_of c.end_line.new.self ran.0 (g.D.SharedDisk.faults c.end_line.new.disk)) inv.6 split.0 split.1 refl ran.4 ran.6)
+        c.loop-first.rest.now c.in-Some.first.now (10 ∷ c.in-Some.next.now) ran.1 ran.2 (state_of c.end_line.new.self ran.0 (g.D.SharedDisk.faults c.end_line.new.disk)) inv.6 split.0 split.1 ran.4 ran.6))
 
 pub returns-clause-fed : goal.returns-clause-fed
 returns-clause-fed g c flat line before reached holds no_lf given =
