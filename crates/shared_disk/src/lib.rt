@@ -2,5 +2,6 @@
 #![tactic(auto)]
 
 mod disk;
+mod sectors;
 
 pub use disk::{DiskAnswer, SharedDisk};
