@@ -1,5 +1,5 @@
 // Small lists that records and replies hold. A contract sees each as a list.
-ghost use Rattle.std.specs.Prelude.{◌≡◌, ◌<◌, ◌≤◌, ◌++◌, [], ◌∷◌, List, length, take, OnOk, OnErr, true, false};
+ghost use Rattle.std.specs.Prelude.{◌≡◌, ◌<◌, ◌≤◌, ◌++◌, [], ◌∷◌, List, length, take, IfOk, true, false};
 
 use crate::{Id, NoMemory};
 use std::alloc::Global;
@@ -31,7 +31,7 @@ impl Bytes {
 
     /// A copy of these bytes.
     pub fn copied(alloc: Global, bytes: &[u8]) -> Result<Bytes, NoMemory>
-        ensures { OnOk result (result ≡ result) }
+        ensures { IfOk result (λ b. b ≡ bytes.now) }
     {
         match Vec::from_slice(alloc, bytes) {
             Ok(bytes) => Ok(Bytes { bytes }),
