@@ -2,6 +2,12 @@
 #![tactic(auto)]
 
 mod disk;
+mod entry;
+pub mod laws;
+mod log;
+mod memory;
 mod sectors;
+mod store;
 
 pub use disk::{DiskAnswer, SharedDisk};
+pub use memory::{Memory, Pick};

@@ -10,7 +10,7 @@ pub(crate) const MEDIUM: u8 = 0;
 /// Sectors of 512 bytes, by their owner, their file's number and their own number in the file.
 #[derive(Drop)]
 pub(crate) struct Sectors {
-    map: HashMap<(u8, u64, u64), [u8; 512]>,
+    map: HashMap<(u8, usize, u64), [u8; 512]>,
 }
 
 impl Sectors {
@@ -27,15 +27,22 @@ impl Sectors {
         })
     }
 
+    /// How many sectors are kept.
+    pub(crate) fn len(&self) -> usize
+        ensures { result ≡ kept_count self.now }
+    {
+        self.map.len()
+    }
+
     /// The bytes of a sector, where it is kept.
-    pub(crate) fn get(&self, owner: u8, file: u64, sector: u64) -> Option<[u8; 512]>
+    pub(crate) fn get(&self, owner: u8, file: usize, sector: u64) -> Option<[u8; 512]>
         ensures { result ≡ sector_at self.now owner file sector }
     {
         self.map.get(&(owner, file, sector)).copied()
     }
 
     /// Keeps these bytes for a sector, in place of those that were kept.
-    pub(crate) fn put(&mut self, owner: u8, file: u64, sector: u64, bytes: &[u8; 512])
+    pub(crate) fn put(&mut self, owner: u8, file: usize, sector: u64, bytes: &[u8; 512])
         requires { kept_count self.old < kept_room self.old }
         ensures at { (o f k : ℕ) → sector_at self.new o f k ≡ (if key_eq (owner, file, sector) (o, f, k) then Some bytes.now else sector_at self.old o f k) }
         ensures count { kept_count self.new ≡ kept_count self.old + (if is_some (sector_at self.old owner file sector) then 0 else 1) }

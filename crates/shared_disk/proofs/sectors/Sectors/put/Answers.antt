@@ -1,5 +1,5 @@
 -- What is kept at each sector, from what the map says of the key that was written.
-use Rattle.std.proofs.Common.{◌≡◌, ◌+◌, ◌<◌, Some, Ok, Err, Option, Result, OnOk, IsOk, arith, refl, sym, subst}
+use Rattle.std.proofs.Common.{◌≡◌, ◌<◌, Some, Ok, Err, Option, Result, OnOk, IsOk, arith, refl, subst}
 use Rattle.std.specs.HashMap.{spare}
 use Rattle.std.specs.Option.{IsSome}
 use Rattle.shared_disk.proofs.sectors.Sectors.put.Goals as goal

@@ -1,0 +1,6 @@
+pub mod Causes
+pub mod Contents
+pub mod Pieces
+pub mod Places
+pub mod Synced
+pub mod OwnWrites
