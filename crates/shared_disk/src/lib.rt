@@ -11,3 +11,6 @@ mod store;
 
 pub use disk::{DiskAnswer, SharedDisk};
 pub use memory::{Memory, Pick};
+
+#[cfg(test)]
+mod tests;
