@@ -4,3 +4,4 @@ pub mod Pieces
 pub mod Places
 pub mod Synced
 pub mod OwnWrites
+pub mod Outcomes

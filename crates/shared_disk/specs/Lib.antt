@@ -6,3 +6,4 @@ pub mod Store
 pub mod Held
 pub mod Memory
 pub mod Parts
+pub mod Crash
