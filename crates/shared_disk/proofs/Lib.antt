@@ -1,4 +1,5 @@
 pub mod Causes
+pub mod Changes
 pub mod Contents
 pub mod Pieces
 pub mod Places

@@ -20,14 +20,14 @@ contains_here l ls = (0, omega arith, refl)
 pub contains_more : (l m : Loose) (ls : List Loose) → Contains ls m → Contains (l ∷ ls) m
 contains_more l m ls h = (suc h.0, omega (arith, h.1), h.2)
 
-nothing_in : {X : Type 0} (l : X) → Contains [] l → ⊥
+pub nothing_in : {X : Type 0} (l : X) → Contains [] l → ⊥
 nothing_in l h = omega (arith, h.1)
 
 at_cases : {X : Type 0} (l m : X) (ls : List X) (k : ℕ) → k < length (l ∷ ls) → get_or (l ∷ ls) k m ≡ m → (l ≡ m) ⊎ Contains ls m
 at_cases l m ls zero within is = inl is
 at_cases l m ls (suc k) within is = inr (k, omega arith, is)
 
-cons_cases : {X : Type 0} (l m : X) (ls : List X) → Contains (l ∷ ls) m → (l ≡ m) ⊎ Contains ls m
+pub cons_cases : {X : Type 0} (l m : X) (ls : List X) → Contains (l ∷ ls) m → (l ≡ m) ⊎ Contains ls m
 cons_cases l m ls h = at_cases l m ls h.0 h.1 h.2
 
 without_step : (host : ℕ) (l m : Loose) (ls : List Loose) (t : Bool) → (l.host == host) ≡ t → (Contains (without host ls) m → Contains ls m)
@@ -85,7 +85,7 @@ synced_step : (host k : ℕ) (f : File) (b : List ℕ) (o : Option (List ℕ)) �
 synced_step host k f b None e h = inl h
 synced_step host k f b (Some v) e h = let w = own_among host k f.loose v e in inr (inl (w.write, w.among, w.at, w.is ∙ sym h))
 
-no_host : (x : ℕ) → ◌≡◌ {A = Option ℕ} None (Some x) → ⊥
+pub no_host : (x : ℕ) → ◌≡◌ {A = Option ℕ} None (Some x) → ⊥
 no_host x e = cc
 
 unless_step : (host x m : ℕ) (t : Bool) → (m == host) ≡ t → unless_by host (Some m) ≡ Some x → ◌≡◌ {A = Option ℕ} (Some m) (Some x)

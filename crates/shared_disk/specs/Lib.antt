@@ -7,3 +7,4 @@ pub mod Held
 pub mod Memory
 pub mod Parts
 pub mod Crash
+pub mod Changes

@@ -1,9 +1,10 @@
 // Laws of the disk's definitions: contracts of functions that do nothing.
-ghost use Rattle.std.specs.Prelude.{◌≡◌, ℕ, ◌+◌, ◌-◌, ◌<◌, ◌≤◌, ◌⊎◌, ◌++◌, ◌≢◌, Bool, true, List, Option, Some, unwrap_or};
+ghost use Rattle.std.specs.Prelude.{◌≡◌, ℕ, ◌+◌, ◌-◌, ◌<◌, ◌≤◌, ◌⊎◌, ◌++◌, ◌≢◌, Bool, true, Contains, List, Option, None, Some, unwrap_or};
 ghost use Rattle.sd_names.specs.declared.place.Place.{Place};
 ghost use Rattle.shared_disk.specs.Calls.{IsPut, synced, wrote};
-ghost use Rattle.shared_disk.specs.Content.{Content, File, Loose, own_of, seen, without, writes, sector_of};
-ghost use Rattle.shared_disk.specs.Crash.{AllDown, Covers, DownLeaves, IsAlone, IsDownFile, IsFileOutcome, IsLaidOver, IsOutcome, IsSettled, stable_folder, with_file};
+ghost use Rattle.shared_disk.specs.Changes.{IsChangedAt, exchanged, raised};
+ghost use Rattle.shared_disk.specs.Content.{Content, File, Loose, own_of, seen, without, writes, sector_of, zero_sector};
+ghost use Rattle.shared_disk.specs.Crash.{AllDown, Covers, DownLeaves, IsAlone, IsDownFile, IsFileOutcome, IsLaidOver, IsOutcome, IsOutcomeSector, IsSettled, stable_folder, with_file};
 
 /// What a host that is alone in a file sees of a sector, and a sync puts onto the medium, after it wrote a piece: the
 /// piece's sectors where the write was done whole, and what was there (`before`) elsewhere. Where only some sectors
@@ -64,4 +65,17 @@ pub fn outcomes_file_by_file()
 /// file that one has.
 pub fn outcome_after_a_change()
     ensures { (d e o : Content) (p : Place) (f g : File) (new : Option File) → IsPut d p new e → d.file p ≡ Some f → IsFileOutcome f g → IsOutcome e o → IsOutcome d (with_file p g o) × IsPut (with_file p g o) p (o.file p) o }
+{}
+
+/// An outcome of a file after an exchange of a sector, where the file isn't fresh, is one from before with the new
+/// sector in its place.
+pub fn outcome_after_an_exchange()
+    ensures { (sector : ℕ) (next : List ℕ) (f g : File) → f.fresh ≡ None → IsFileOutcome (exchanged sector next f) g → (o : File) × IsFileOutcome f o × IsChangedAt sector next o g }
+{}
+
+/// A sector that a file had is on an outcome, after the file was raised, as on one from before. The further sectors are
+/// zeros, where the file isn't fresh and its unsynced writes lie within its old size.
+pub fn outcome_after_a_raise()
+    ensures old { (size k : ℕ) (f : File) (b : List ℕ) → k < f.size → IsOutcomeSector (raised size f) k b → IsOutcomeSector f k b }
+    ensures new { (size k : ℕ) (f : File) (b : List ℕ) → f.size ≤ k → f.fresh ≡ None → ((l : Loose) → Contains f.loose l → l.sector < f.size) → IsOutcomeSector (raised size f) k b → b ≡ zero_sector }
 {}
