@@ -1,0 +1,5 @@
+pub mod Text
+pub mod Left
+pub mod Shown
+pub mod Written
+pub mod Next
