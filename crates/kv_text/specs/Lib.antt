@@ -3,3 +3,5 @@ pub mod Left
 pub mod Shown
 pub mod Written
 pub mod Next
+pub mod Lookup
+pub mod Number

@@ -2,11 +2,15 @@
 #![tactic(auto)]
 
 mod lines;
+mod lookup;
+mod number;
 mod pair;
 mod split;
 mod writer;
 
 pub use lines::Lines;
+pub use lookup::{first_bad_line, has_eof, value_of};
+pub use number::read_number;
 pub use pair::Pair;
 pub use writer::KvWriter;
 

@@ -50,3 +50,41 @@ fn writes(rt: HostRuntime) {
     assert_eq!(rt; writer.finish(), 9);
     assert_eq!(rt; buffer.as_slice(), b"AB==c\nD=\n...".as_slice());
 }
+
+#[test]
+fn looks_up(rt: HostRuntime) {
+    let text = b"A=1\nB=\n\nA=2\nEOF\nB=3";
+    let cases = [
+        ("A", Some("2")),
+        ("B", Some("")),
+        ("C", None),
+        ("", None),
+        ("EOF", None),
+    ];
+    for (key, want) in cases {
+        let found = value_of(text, key.as_bytes());
+        assert!(rt; found == want.map(|value| value.as_bytes()));
+    }
+    assert!(rt; has_eof(text));
+    assert!(rt; !has_eof(b"A=1\n EOF\n"));
+    assert!(rt; first_bad_line(text).is_none());
+    assert!(rt; first_bad_line(b"\nA=1\nA\nB") == Some(3));
+    assert!(rt; first_bad_line(b"EOF\nA").is_none());
+}
+
+#[test]
+fn numbers(rt: HostRuntime) {
+    let cases = [
+        ("0", Some(0)),
+        ("007", Some(7)),
+        ("18446744073709551615", Some(18446744073709551615)),
+        ("18446744073709551616", None),
+        ("000000000000000000001", None),
+        ("", None),
+        ("+1", None),
+        ("1 ", None),
+    ];
+    for (value, want) in cases {
+        assert_eq!(rt; read_number(value.as_bytes()), want);
+    }
+}
