@@ -1,0 +1,4 @@
+pub mod Values
+pub mod Read
+pub mod Gives
+pub mod Shown

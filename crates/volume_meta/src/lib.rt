@@ -1,0 +1,10 @@
+//! The text beside a volume: reading it into a record, and writing it, in both versions.
+#![tactic(auto)]
+
+mod keys;
+mod reading;
+mod record;
+mod values;
+
+pub use reading::read;
+pub use record::{VolumeRecord, next_generation};
