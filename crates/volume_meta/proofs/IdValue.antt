@@ -53,7 +53,7 @@ module _ (s u : List ℕ) (e : parsed_hyphenated s ≡ Some u) where
       let count : length u ≡ 16 = sym (ap length same) ∙ by_index_length 16 (byte_of_digits (digits_of s)) in
       record {
         sixteen = count;
-        in_range = All-from_get_or (λ (b : ℕ). b < 256) u 0 (λ i h. rw (← same, by_index_at 16 (byte_of_digits (digits_of s)) i 0 (omega arith)) (small i (omega arith)))
+        in_range = All-from_get_or (λ (b : ℕ). b < 256) u 0 (λ i h. rw (← same, by_index_at 16 (byte_of_digits (digits_of s)) i 0 (omega arith)) (small i (omega arith)));
       }
 
   pub reads_as : ReadsAs s u

@@ -1,1 +1,2 @@
 pub mod IdValue
+pub mod Joined

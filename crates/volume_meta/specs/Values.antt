@@ -1,5 +1,5 @@
 -- What the value of each key of a volume's text means.
-use Rattle.std.specs.Prelude.{ℕ, ◌+◌, ◌*◌, ◌%◌, ◌^◌, Bool, true, false, ◌==◌, ◌&&◌, List, [], length, nat_le, Option, Some, None, if◌then◌else◌, codes, option_and_then}
+use Rattle.std.specs.Prelude.{ℕ, ◌*◌, ◌%◌, ◌^◌, Bool, true, ◌==◌, ◌&&◌, List, length, nat_le, Option, Some, None, if◌then◌else◌, codes, option_and_then}
 use Rattle.std.specs.Option.{option_map}
 use Rattle.std.specs.Str.{bytes_eq}
 use Rattle.uuid.specs.Text.{parsed_hyphenated}

@@ -1,5 +1,5 @@
 // The value of each key in a text.
-ghost use Rattle.std.specs.Prelude.{◌≡◌, ◌==◌, ◌↔◌, Bool, IsTrue, [], Some, None, codes, false};
+ghost use Rattle.std.specs.Prelude.{◌≡◌, ◌≤◌, [], length, IfOk, codes, false};
 ghost use Rattle.std.specs.Option.{option_map};
 ghost use Rattle.kv_text.specs.Text.{pairs};
 ghost use Rattle.kv_text.specs.Number.{number_of};
@@ -61,18 +61,18 @@ pub fn ctime(text: &[u8]) -> Result<u64, VolumeFault>
 }
 
 pub fn description(text: &[u8]) -> Result<&[u8], VolumeFault>
-    ensures { bytes_of result ≡ optional key.Description [] description_of (value key.Description (pairs text.now)) }
+    ensures short { IfOk result (λ bytes. length bytes.now ≤ 4096) }
+    ensures value { bytes_of result ≡ optional key.Description [] description_of (value key.Description (pairs text.now)) }
 {
     match value(text, Key::Description) {
-        Some(value) => {
-            values::description(value).ok_or(VolumeFault::BadValue(Key::Description))
-        }
+        Some(value) => { values::description(value).ok_or(VolumeFault::BadValue(Key::Description)) }
         None => Ok(&[]),
     }
 }
 
 pub fn disk_type(text: &[u8]) -> Result<&[u8], VolumeFault>
-    ensures { bytes_of result ≡ optional key.DiskType (codes "DATA") disk_type_of (value key.DiskType (pairs text.now)) }
+    ensures short { IfOk result (λ bytes. length bytes.now ≤ 16) }
+    ensures value { bytes_of result ≡ optional key.DiskType (codes "DATA") disk_type_of (value key.DiskType (pairs text.now)) }
 {
     match value(text, Key::DiskType) {
         Some(value) => values::disk_type(value).ok_or(VolumeFault::BadValue(Key::DiskType)),
@@ -129,9 +129,7 @@ pub fn merged(legality: Legality, text: &[u8]) -> Result<bool, VolumeFault>
     ensures { result ≡ optional key.Merged false (merged_of legality) (value key.Merged (pairs text.now)) }
 {
     match value(text, Key::Merged) {
-        Some(value) => {
-            values::merged(legality, value).ok_or(VolumeFault::BadValue(Key::Merged))
-        }
+        Some(value) => { values::merged(legality, value).ok_or(VolumeFault::BadValue(Key::Merged)) }
         None => Ok(false),
     }
 }

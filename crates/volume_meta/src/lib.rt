@@ -5,6 +5,11 @@ mod keys;
 mod reading;
 mod record;
 mod values;
+mod writing;
 
 pub use reading::read;
 pub use record::{VolumeRecord, next_generation};
+pub use writing::write_into;
+
+#[cfg(test)]
+mod tests;

@@ -1,8 +1,9 @@
 // Reading a volume's text.
-ghost use Rattle.std.specs.Prelude.{◌≡◌, Ok};
+ghost use Rattle.std.specs.Prelude.{◌≡◌, ◌≤◌, length, IfOk, Ok};
 ghost use Rattle.kv_text.specs.Text.{pairs};
 ghost use Rattle.volume_meta.specs.Read.{head_of, middle_of, tail_of, needed_keys, shape_fault, record_of, fields_of, read_volume};
 ghost use Rattle.volume_meta.specs.Gives.{Gives};
+ghost use Rattle.volume_meta.specs.Text.{HasShortTexts};
 ghost use Rattle.volume_meta.specs.Shown.{head_shown, head_view, middle_shown, middle_view, tail_shown, tail_view};
 
 use crate::keys;
@@ -42,7 +43,9 @@ struct Tail {
 
 #[tactic(auto, unfolding(crate::specs::Read::head_of))]
 fn read_head(five: bool, text: &[u8]) -> Result<Head<'_>, VolumeFault>
-    ensures { head_shown result ≡ head_of five (pairs text.now) }
+    ensures value { head_shown result ≡ head_of five (pairs text.now) }
+    ensures description { IfOk result (λ head. length head.description.now ≤ 4096) }
+    ensures disk_type { IfOk result (λ head. length head.disk_type.now ≤ 16) }
 {
     let cap = keys::cap(five, text)?;
     let ctime = keys::ctime(text)?;
@@ -145,7 +148,10 @@ fn record(
     middle: Middle,
     tail: Tail,
 ) -> Result<VolumeRecord, VolumeFault>
-    ensures { Gives result (Ok (record_of (head_view head.entry) (middle_view middle) (tail_view tail))) }
+    requires description { length head.description.now ≤ 4096 }
+    requires disk_type { length head.disk_type.now ≤ 16 }
+    ensures short { IfOk result HasShortTexts }
+    ensures value { Gives result (Ok (record_of (head_view head.entry) (middle_view middle) (tail_view tail))) }
 {
     let Ok(description) = Bytes::copied(alloc, head.description) else {
         return Err(VolumeFault::Memory);
@@ -179,7 +185,8 @@ fn fields(
     image: Id,
     text: &[u8],
 ) -> Result<VolumeRecord, VolumeFault>
-    ensures { Gives result (fields_of five sd image (pairs text.now)) }
+    ensures short { IfOk result HasShortTexts }
+    ensures value { Gives result (fields_of five sd image (pairs text.now)) }
 {
     let head = read_head(five, text)?;
     let middle = read_middle(sd, image, text)?;
@@ -199,7 +206,8 @@ pub fn read(
     image: Id,
     text: &[u8],
 ) -> Result<VolumeRecord, VolumeFault>
-    ensures { Gives result (read_volume version sd image text.now) }
+    ensures short { IfOk result HasShortTexts }
+    ensures read { Gives result (read_volume version sd image text.now) }
 {
     let five = version == 5;
     match shape_fault(five, text) {

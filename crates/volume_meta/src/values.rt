@@ -1,5 +1,5 @@
 // What the values of a volume's keys mean.
-ghost use Rattle.std.specs.Prelude.{◌≡◌};
+ghost use Rattle.std.specs.Prelude.{◌≡◌, ◌≤◌, length, IfSome};
 ghost use Rattle.std.specs.Option.{option_map};
 ghost use Rattle.volume_meta.specs.Values.{capacity_of, size_of, generation_of, description_of, disk_type_of, id_of, this_id, format_of, legality_of, kind_of, voltype_of, merged_of};
 
@@ -50,14 +50,20 @@ pub fn generation(value: &[u8]) -> Option<u16>
 
 #[tactic(auto, unfolding(crate::specs::Values::description_of))]
 pub fn description(value: &[u8]) -> Option<&[u8]>
-    ensures { option_map (λ bytes. bytes.now) result ≡ description_of value.now }
+    ensures value { option_map (λ bytes. bytes.now) result ≡ description_of value.now }
+    ensures short { IfSome result (λ bytes. length bytes.now ≤ 4096) }
 {
-    if value.len() <= 4096 { Some(value) } else { None }
+    if value.len() <= 4096 {
+        Some(value)
+    } else {
+        None
+    }
 }
 
 #[tactic(auto, unfolding(crate::specs::Values::disk_type_of))]
 pub fn disk_type(value: &[u8]) -> Option<&[u8]>
-    ensures { option_map (λ bytes. bytes.now) result ≡ disk_type_of value.now }
+    ensures value { option_map (λ bytes. bytes.now) result ≡ disk_type_of value.now }
+    ensures short { IfSome result (λ bytes. length bytes.now ≤ 16) }
 {
     if value.len() >= 1 && value.len() <= 16 {
         Some(value)

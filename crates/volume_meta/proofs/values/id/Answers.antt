@@ -1,7 +1,6 @@
-use Rattle.std.proofs.Common.{◌≡◌, ◌∙◌, ap, sym, Option, Some, None, List, ℕ}
+use Rattle.std.proofs.Common.{◌∙◌, ap, sym, Option, List, ℕ}
 use Rattle.std.specs.Option.{option_map}
 use Rattle.sd_names.specs.declared.id.Id.{Id}
-use Rattle.sd_names.specs.Id.{ReadsAs}
 use Rattle.volume_meta.specs.Values.{id_of}
 use Rattle.volume_meta.proofs.IdValue.{parsed_some, parsed_none}
 use Rattle.volume_meta.proofs.values.id.Goals as goal
