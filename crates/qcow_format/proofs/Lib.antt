@@ -4,3 +4,4 @@ pub mod Formats
 pub mod Put
 pub mod Table
 pub mod Again
+pub mod Accepted

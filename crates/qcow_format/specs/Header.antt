@@ -40,14 +40,18 @@ fields_of_version_2 head = record {
   format = None;
 }
 
+-- and those that version 3 adds
+abbrev pub fields_of_version_3 : List ℕ → Header
+fields_of_version_3 head = record (fields_of_version_2 head) {
+  incompatible_features = number 8 72 head;
+  compatible_features = number 8 80 head;
+  autoclear_features = number 8 88 head;
+  refcount_order = number 4 96 head;
+  header_length = number 4 100 head;
+}
+
 unfoldable pub fields_of : List ℕ → Header
-fields_of head = if number 4 4 head == 3 then record (fields_of_version_2 head) {
-    incompatible_features = number 8 72 head;
-    compatible_features = number 8 80 head;
-    autoclear_features = number 8 88 head;
-    refcount_order = number 4 96 head;
-    header_length = number 4 100 head;
-  } else fields_of_version_2 head
+fields_of head = if number 4 4 head == 3 then fields_of_version_3 head else fields_of_version_2 head
 
 -- the first fault whose test holds
 abbrev pub first_fault : List (Bool × LayerFault) → Option LayerFault

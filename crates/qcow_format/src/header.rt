@@ -1,5 +1,5 @@
 // The header.
-ghost use Rattle.std.specs.Prelude.{◌≡◌, ℕ, ◌^◌, ◌<◌, ◌≤◌, ◌++◌, List, length, take, Option, IfNone, Ok, nat_le};
+ghost use Rattle.std.specs.Prelude.{◌≡◌, ℕ, ◌^◌, ◌<◌, ◌≤◌, ◌++◌, List, length, take, Option, IfNone, IfOk, Ok, nat_le};
 ghost use Rattle.std.specs.Option.{SomeIff};
 ghost use Rattle.qcow_format.specs.Header.{fields_of_version_2, fields_of, field_fault, name_of, mapped, head_size, shape_of, with_format, header_of};
 ghost use Rattle.qcow_format.specs.Written.{HasRoom, IsHeader, written};
@@ -196,6 +196,26 @@ fn with_found(header: Header, found: Option<(u32, Format)>) -> Header
     }
 }
 
+// The header of a file that begins with these bytes, or its first fault.
+#[tactic(auto, unfolding(crate::specs::Header::header_of))]
+fn header_in(head: &[u8]) -> Result<Header, LayerFault>
+    ensures { result ≡ header_of head.now }
+{
+    if head.len() < 512 {
+        return Err(LayerFault::Short);
+    }
+    let header = fields(head);
+    if let Some(fault) = fault_of(&header) {
+        return Err(fault);
+    }
+    let found = format_of_head(&header, head)?;
+    let header = with_found(header, found);
+    if !is_mapped(&header) {
+        return Err(LayerFault::Size(header.size));
+    }
+    Ok(header)
+}
+
 impl Header {
     /// Reads the header of a file that begins with these bytes.
     ///
@@ -206,23 +226,13 @@ impl Header {
     /// The first fault comes in this order: `Short` for fewer than 512 bytes, `Magic`, `Version`, `Bits`, `Encrypted`,
     /// `Snapshots`, `Feature`, `RefcountOrder`, `HeaderShape`, and `Size` where the L1 table can't map the header's own
     /// size. Whether the size is enough for a volume is for the caller, who knows the volume.
-    #[tactic(auto, unfolding(crate::specs::Header::header_of))]
     pub fn read(head: &[u8]) -> Result<Header, LayerFault>
-        ensures { result ≡ header_of head.now }
+        ensures value { result ≡ header_of head.now }
+
+        // What is read is a header that `write` takes.
+        ensures sound { IfOk result IsHeader }
     {
-        if head.len() < 512 {
-            return Err(LayerFault::Short);
-        }
-        let header = fields(head);
-        if let Some(fault) = fault_of(&header) {
-            return Err(fault);
-        }
-        let found = format_of_head(&header, head)?;
-        let header = with_found(header, found);
-        if !is_mapped(&header) {
-            return Err(LayerFault::Size(header.size));
-        }
-        Ok(header)
+        header_in(head)
     }
 
     /// Writes the header's fields to the first sector of a file, and the backing format at its place where there is
