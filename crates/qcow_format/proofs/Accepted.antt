@@ -1,6 +1,6 @@
 -- What is read is a header.
-use Rattle.std.proofs.Common.{◌≡◌, ℕ, zero, suc, ◌+◌, ◌-◌, ◌*◌, ◌/◌, ◌%◌, ◌^◌, ◌<◌, ◌≤◌, ◌⊎◌, inl, inr, Bool, true, false, cond, eqb, ltb, List, [], ◌∷◌, length, get_or, take, drop, Option, Some, None, Result, Ok, Err, refl, sym, ap, subst, ◌∙◌, arith}
-use Rattle.std.specs.Prelude.{IfSome, IfOk, not, ◌||◌, ◌&&◌, codes, unwrap_or, option_map}
+use Rattle.std.proofs.Common.{◌≡◌, ℕ, zero, suc, ◌+◌, ◌*◌, ◌/◌, ◌%◌, ◌^◌, ◌<◌, ◌≤◌, Bool, true, false, cond, eqb, ltb, List, [], ◌∷◌, length, get_or, take, drop, Option, Some, None, Result, Ok, Err, refl, sym, ap, subst, ◌∙◌, arith}
+use Rattle.std.specs.Prelude.{IfSome, IfOk, ◌&&◌, codes, unwrap_or, option_map}
 use Rattle.std.specs.Str.{bytes_eq}
 use Rattle.std.proofs.lemmas.Bool.{ltb-false}
 use Rattle.std.proofs.lemmas.Bool.Decides.{nat_tests}
@@ -13,7 +13,7 @@ use Rattle.sd_names.specs.declared.kinds.Format.{Format}
 use Rattle.sd_names.specs.declared.kinds.Format.TheVariants.{Raw, Cow}
 use Rattle.qcow_format.specs.declared.extension.TheConstants.{BACKING_FORMAT}
 use Rattle.qcow_format.specs.Bytes.{number}
-use Rattle.qcow_format.specs.Extension.{Placed, placed_at, end_of, data_of, is_extension, extensions_up_to, extensions_at, end_after}
+use Rattle.qcow_format.specs.Extension.{placed_at, end_of, data_of, is_extension, extensions_up_to, extensions_at, end_after}
 use Rattle.qcow_format.specs.declared.header.Header.{Header}
 use Rattle.qcow_format.specs.Header.{name_of, fields_of_version_2, fields_of_version_3, fields_of, field_fault, fine_fields, head_size, has_length, has_aligned_tables, has_name, is_closed, has_shape, shape_of, mapped, sized, with_format, header_of}
 use Rattle.qcow_format.specs.Written.{version_2_table, version_3_table, HaveWidth, IsHeader}
@@ -99,10 +99,37 @@ number-lt n at bytes fits = big_from-lt 0 n (drop at bytes) (λ i. rw get_or-dro
 
 both_fit : (bytes : List ℕ) → IsBytes bytes → HaveWidth (version_2_table (fields_of_version_2 bytes))
 unfolding fields_of_version_2
-both_fit bytes fits =
-    ( number-lt 4 0 bytes fits, (number-lt 4 4 bytes fits, (number-lt 8 8 bytes fits, (number-lt 4 16 bytes fits, (number-lt 4 20 bytes fits
-    , (number-lt 8 24 bytes fits, (number-lt 4 32 bytes fits, (number-lt 4 36 bytes fits, (number-lt 8 40 bytes fits, (number-lt 8 48 bytes fits
-    , (number-lt 4 56 bytes fits, (number-lt 4 60 bytes fits, (number-lt 8 64 bytes fits, tt)))))))))))) )
+both_fit bytes fits = (
+  number-lt 4 0 bytes fits,
+  (
+    number-lt 4 4 bytes fits,
+    (
+      number-lt 8 8 bytes fits,
+      (
+        number-lt 4 16 bytes fits,
+        (
+          number-lt 4 20 bytes fits,
+          (
+            number-lt 8 24 bytes fits,
+            (
+              number-lt 4 32 bytes fits,
+              (
+                number-lt 4 36 bytes fits,
+                (
+                  number-lt 8 40 bytes fits,
+                  (
+                    number-lt 8 48 bytes fits,
+                    (number-lt 4 56 bytes fits, (number-lt 4 60 bytes fits, (number-lt 8 64 bytes fits, tt))),
+                  ),
+                ),
+              ),
+            ),
+          ),
+        ),
+      ),
+    ),
+  ),
+)
 
 -- ---- the fields that were read
 
@@ -140,10 +167,11 @@ shape_true : (head : List ℕ) (h : Header) (end : ℕ) (t : Bool) → has_shape
     → last_format head (extensions_at head h.header_length) ≡ Ok f → cond t (Ok f) (Err HeaderShape) ≡ Ok found
     → (has_length h ≡ true) × (last_format head (extensions_at head h.header_length) ≡ Ok found)
 shape_true head h end true is f found last e =
-    let same : f ≡ found = cc in
-    ( and_left (has_length h) (has_aligned_tables h) (and_left (has_length h && has_aligned_tables h) (has_name head h)
-        (and_left (has_length h && has_aligned_tables h && has_name head h) (is_closed head (head_size h.cluster_bits) end) is))
-    , last ∙ ap (λ (x : Option (ℕ × Format)). Ok x) same )
+    let same : f ≡ found = cc in (
+      and_left (has_length h) (has_aligned_tables h) (and_left (has_length h && has_aligned_tables h) (has_name head h)
+          (and_left (has_length h && has_aligned_tables h && has_name head h) (is_closed head (head_size h.cluster_bits) end) is)),
+      last ∙ ap (λ (x : Option (ℕ × Format)). Ok x) same,
+    )
 shape_true head h end false is f found last e = absurd cc
 
 shape_parts : (head : List ℕ) (h : Header) (found : Option (ℕ × Format)) → shape_of head h ≡ Ok found

@@ -1,8 +1,8 @@
 -- A header that was written is read again.
-use Rattle.std.proofs.Common.{◌≡◌, ℕ, ◌+◌, ◌-◌, ◌*◌, ◌/◌, ◌^◌, ◌<◌, ◌≤◌, ◌⊎◌, inl, inr, Bool, true, false, cond, eqb, ltb, List, [], ◌∷◌, ◌++◌, length, get_or, take, min, Option, Some, None, Result, Ok, Err, refl, sym, ap, ◌∙◌, arith}
+use Rattle.std.proofs.Common.{◌≡◌, ℕ, ◌+◌, ◌≤◌, ◌⊎◌, inl, inr, Bool, true, false, cond, eqb, ltb, List, ◌++◌, length, take, Option, Some, None, Result, Ok, Err, refl, ◌∙◌, arith}
 use Rattle.std.specs.Prelude.{IfSome, not, ◌||◌}
 use Rattle.std.specs.Int.{w64, trailing_zeros}
-use Rattle.std.proofs.lemmas.Bool.{lt-ltb, le-ltb, eqb-true}
+use Rattle.std.proofs.lemmas.Bool.{le-ltb}
 use Rattle.std.proofs.lemmas.Bool.Decides.{nat_tests}
 use Rattle.std.proofs.lemmas.List.{get_or_append_left, length-append}
 use Rattle.sd_names.specs.declared.fault.LayerFault.{LayerFault}
@@ -10,9 +10,9 @@ use Rattle.sd_names.specs.declared.fault.LayerFault.TheVariants.{Magic, Version,
 use Rattle.sd_names.specs.declared.kinds.Format.{Format}
 use Rattle.qcow_format.specs.declared.header.Header.{Header}
 use Rattle.qcow_format.specs.declared.header.TheConstants.{MAGIC}
-use Rattle.qcow_format.specs.Bytes.{number, put, bytes_of}
-use Rattle.qcow_format.specs.Header.{name_of, fields_of_version_2, fields_of, field_fault, fine_fields, head_size, shape_of, mapped, with_format, header_of}
-use Rattle.qcow_format.specs.Written.{Field, version_2_table, version_3_table, puts, format_bytes, put_format, put_fields, written, IsHeader}
+use Rattle.qcow_format.specs.Bytes.{number}
+use Rattle.qcow_format.specs.Header.{fields_of_version_2, fields_of, field_fault, fine_fields, head_size, shape_of, mapped, with_format, header_of}
+use Rattle.qcow_format.specs.Written.{version_2_table, version_3_table, puts, format_bytes, put_format, put_fields, written, IsHeader}
 use Rattle.qcow_format.proofs.Put.{length-format_bytes, length-put, number-same, number-put_before}
 use Rattle.qcow_format.proofs.Table.{Stand, Read, length-puts, number-puts_before, puts_read, Read-same}
 
@@ -106,8 +106,8 @@ tests : (h : Header) → field_fault h ≡ None
 unfolding field_fault
 tests h e =
     let t = no_test (not (eqb h.magic MAGIC)) (not (eqb h.version 2 || eqb h.version 3)) (ltb h.cluster_bits 12 || ltb 21 h.cluster_bits)
-        (not (eqb h.crypt_method 0)) (not (eqb h.nb_snapshots 0)) (not (eqb h.incompatible_features 0)) (not (eqb h.refcount_order 4))
-        Magic Version Bits Encrypted Snapshots (Feature (trailing_zeros w64 h.incompatible_features)) RefcountOrder e in
+    (not (eqb h.crypt_method 0)) (not (eqb h.nb_snapshots 0)) (not (eqb h.incompatible_features 0)) (not (eqb h.refcount_order 4))
+    Magic Version Bits Encrypted Snapshots (Feature (trailing_zeros w64 h.incompatible_features)) RefcountOrder e in
     (is_version h.version t.0, is_equal h.incompatible_features 0 t.1, is_equal h.refcount_order 4 t.2)
 
 fields_again_2 : (h : Header) (bytes : List ℕ) → IsHeader h → h.version ≡ 2 → Read bytes (version_2_table h) → fields_of bytes ≡ bare h

@@ -1,5 +1,5 @@
 -- Fields that stand one behind the other.
-use Rattle.std.proofs.Common.{◌≡◌, ℕ, ◌+◌, ◌^◌, ◌<◌, ◌≤◌, List, [], ◌∷◌, length, refl, sym, ap, ◌∙◌, arith}
+use Rattle.std.proofs.Common.{◌≡◌, ℕ, ◌+◌, ◌≤◌, List, [], ◌∷◌, length, refl, ◌∙◌, arith}
 use Rattle.std.specs.List.{AllByRecursion}
 use Rattle.qcow_format.specs.Bytes.{number, put, bytes_of}
 use Rattle.qcow_format.specs.Written.{Field, puts, HaveWidth}
@@ -51,10 +51,11 @@ puts_read from to [] bytes h widths fits = tt
 puts_read from to (f ∷ fs) bytes h widths fits =
     let le = stands (f.at + f.width) to fs h.1 in
     let one = length-put_field f to bytes le fits in
-    let next = put f.at (bytes_of f.width f.value) bytes in
-    ( number-puts_before f.width f.at (f.at + f.width) to fs next (omega arith) h.1 (omega arith)
-      ∙ number-put_same f.width f.at f.value bytes (omega arith) widths.0
-    , puts_read (f.at + f.width) to fs next h.1 widths.1 (omega arith) )
+    let next = put f.at (bytes_of f.width f.value) bytes in (
+      number-puts_before f.width f.at (f.at + f.width) to fs next (omega arith) h.1 (omega arith)
+          ∙ number-put_same f.width f.at f.value bytes (omega arith) widths.0,
+      puts_read (f.at + f.width) to fs next h.1 widths.1 (omega arith),
+    )
 
 -- bytes in which numbers up to a place are the same
 pub Read-same : (from to : ℕ) (fs : List Field) (xs ys : List ℕ) → Stand from to fs → ((n at : ℕ) → at + n ≤ to → number n at ys ≡ number n at xs) → Read xs fs → Read ys fs

@@ -1,5 +1,5 @@
 -- The header (qcow2 specification, "Header"), with this store's profile.
-use Rattle.std.specs.Prelude.{◌≡◌, ℕ, Bool, ◌+◌, ◌-◌, ◌*◌, ◌/◌, ◌%◌, ◌^◌, min, ◌==◌, ◌||◌, ◌&&◌, not, nat_lt, nat_le, if◌then◌else◌, List, [], ◌∷◌, length, take, Option, Some, None, option_map, Result, Ok, Err}
+use Rattle.std.specs.Prelude.{ℕ, Bool, ◌+◌, ◌*◌, ◌/◌, ◌%◌, ◌^◌, min, ◌==◌, ◌||◌, ◌&&◌, not, nat_lt, nat_le, if◌then◌else◌, List, [], ◌∷◌, length, take, Option, Some, None, option_map, Result, Ok, Err}
 use Rattle.std.specs.Int.{w64, trailing_zeros}
 use Rattle.sd_names.specs.declared.fault.LayerFault.{LayerFault}
 use Rattle.sd_names.specs.declared.fault.LayerFault.TheVariants.{Short, Magic, Version, Bits, Encrypted, Snapshots, Feature, RefcountOrder, HeaderShape, Size}
@@ -62,13 +62,13 @@ first_fault (t ∷ ts) = if t.0 then Some t.1 else first_fault ts
 unfoldable pub field_fault : Header → Option LayerFault
 field_fault h = first_fault (
     (not (h.magic == MAGIC), Magic)
-  ∷ (not (h.version == 2 || h.version == 3), Version)
-  ∷ (nat_lt h.cluster_bits 12 || nat_lt 21 h.cluster_bits, Bits)
-  ∷ (not (h.crypt_method == 0), Encrypted)
-  ∷ (not (h.nb_snapshots == 0), Snapshots)
-  ∷ (not (h.incompatible_features == 0), Feature (trailing_zeros w64 h.incompatible_features))
-  ∷ (not (h.refcount_order == 4), RefcountOrder)
-  ∷ [])
+    ∷ (not (h.version == 2 || h.version == 3), Version)
+    ∷ (nat_lt h.cluster_bits 12 || nat_lt 21 h.cluster_bits, Bits)
+    ∷ (not (h.crypt_method == 0), Encrypted)
+    ∷ (not (h.nb_snapshots == 0), Snapshots)
+    ∷ (not (h.incompatible_features == 0), Feature (trailing_zeros w64 h.incompatible_features))
+    ∷ (not (h.refcount_order == 4), RefcountOrder)
+    ∷ [])
 
 abbrev pub fine_fields : Header → Result Header LayerFault
 fine_fields h = elim (field_fault h) [ None ↦ Ok h | Some fault ↦ Err fault ]

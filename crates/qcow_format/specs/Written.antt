@@ -1,5 +1,5 @@
 -- A header as it is written (qcow2 specification, "Header").
-use Rattle.std.specs.Prelude.{◌≡◌, ℕ, ◌+◌, ◌^◌, ◌<◌, ◌≤◌, ◌==◌, if◌then◌else◌, IfSome, List, [], ◌∷◌, ◌++◌, length, codes, replicate, Option, Some, None}
+use Rattle.std.specs.Prelude.{◌≡◌, ℕ, ◌+◌, ◌^◌, ◌<◌, ◌≤◌, ◌==◌, if◌then◌else◌, IfSome, List, [], ◌∷◌, ◌++◌, codes, replicate, Option, Some, None}
 use Rattle.std.specs.List.{AllByRecursion}
 use Rattle.sd_names.specs.declared.kinds.Format.{Format}
 use Rattle.sd_names.specs.declared.kinds.Format.TheVariants.{Raw, Cow}
@@ -21,29 +21,29 @@ field at width value = record { at = at; width = width; value = value }
 abbrev pub version_2_table : Header → List Field
 version_2_table h =
     field 0 4 h.magic
-  ∷ field 4 4 h.version
-  ∷ field 8 8 h.backing_file_offset
-  ∷ field 16 4 h.backing_file_size
-  ∷ field 20 4 h.cluster_bits
-  ∷ field 24 8 h.size
-  ∷ field 32 4 h.crypt_method
-  ∷ field 36 4 h.l1_size
-  ∷ field 40 8 h.l1_table_offset
-  ∷ field 48 8 h.refcount_table_offset
-  ∷ field 56 4 h.refcount_table_clusters
-  ∷ field 60 4 h.nb_snapshots
-  ∷ field 64 8 h.snapshots_offset
-  ∷ []
+    ∷ field 4 4 h.version
+    ∷ field 8 8 h.backing_file_offset
+    ∷ field 16 4 h.backing_file_size
+    ∷ field 20 4 h.cluster_bits
+    ∷ field 24 8 h.size
+    ∷ field 32 4 h.crypt_method
+    ∷ field 36 4 h.l1_size
+    ∷ field 40 8 h.l1_table_offset
+    ∷ field 48 8 h.refcount_table_offset
+    ∷ field 56 4 h.refcount_table_clusters
+    ∷ field 60 4 h.nb_snapshots
+    ∷ field 64 8 h.snapshots_offset
+    ∷ []
 
 -- those that version 3 adds
 abbrev pub version_3_table : Header → List Field
 version_3_table h =
     field 72 8 h.incompatible_features
-  ∷ field 80 8 h.compatible_features
-  ∷ field 88 8 h.autoclear_features
-  ∷ field 96 4 h.refcount_order
-  ∷ field 100 4 h.header_length
-  ∷ []
+    ∷ field 80 8 h.compatible_features
+    ∷ field 88 8 h.autoclear_features
+    ∷ field 96 4 h.refcount_order
+    ∷ field 100 4 h.header_length
+    ∷ []
 
 -- bytes with each field laid over them at its place
 abbrev pub puts : List Field → List ℕ → List ℕ

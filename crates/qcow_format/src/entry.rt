@@ -95,5 +95,4 @@ pub fn table_place(bits: u64, at: u64) -> Result<Option<u64>, LayerFault>
 pub fn entries_read_again()
     ensures version_3 { (e : Entry) (at : ℕ) → HasPlace e → entry_in (word_of e) 3 at ≡ Ok e }
     ensures version_2 { (e : Entry) (at : ℕ) → HasPlace e → IsOfVersion2 e → entry_in (word_of e) 2 at ≡ Ok e }
-{
-}
+{}

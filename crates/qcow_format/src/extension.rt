@@ -17,7 +17,7 @@ pub struct Extension<'a> {
 }
 
 /// The extensions of a head, one after the other. Each lends its data from the head.
-#[derive(Clone, Copy, Debug)]
+#[derive(Debug, Drop)]
 pub struct Extensions<'a> {
     head: &'a [u8],
     at: usize,

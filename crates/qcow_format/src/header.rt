@@ -145,9 +145,7 @@ fn fault_of(header: &Header) -> Option<LayerFault>
         return Some(LayerFault::Snapshots);
     }
     if header.incompatible_features != 0 {
-        return Some(LayerFault::Feature(
-            header.incompatible_features.trailing_zeros(),
-        ));
+        return Some(LayerFault::Feature(header.incompatible_features.trailing_zeros()));
     }
     if header.refcount_order != 4 {
         return Some(LayerFault::RefcountOrder);
@@ -254,5 +252,4 @@ pub fn headers_read_again()
     ensures { (h : Header) (first rest : List ℕ) (found : Option (ℕ × Format)) → IsHeader h → length first ≡ 512
         → shape_of (take (head_size h.cluster_bits) (written h first ++ rest)) h ≡ Ok found → with_format h found ≡ h
         → header_of (written h first ++ rest) ≡ Ok h }
-{
-}
+{}

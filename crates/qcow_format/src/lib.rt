@@ -14,4 +14,7 @@ mod writing;
 pub use entry::{Entry, entries_read_again, entry_bits, entry_of, table_place};
 pub use extension::{BACKING_FORMAT, Extension, Extensions};
 pub use head::extensions;
-pub use header::{Header, MAGIC};
+pub use header::{Header, MAGIC, headers_read_again};
+
+#[cfg(test)]
+mod tests;

@@ -93,7 +93,10 @@ fn format_within(head: &[u8], header: &Header) -> Result<Option<(u32, Format)>, 
 }
 
 // The backing format that the head of these bytes names, where it keeps the profile's rules.
-pub(crate) fn format_of_head(header: &Header, bytes: &[u8]) -> Result<Option<(u32, Format)>, LayerFault>
+pub(crate) fn format_of_head(
+    header: &Header,
+    bytes: &[u8],
+) -> Result<Option<(u32, Format)>, LayerFault>
     requires low { 12 ≤ header.now.cluster_bits }
     requires high { header.now.cluster_bits ≤ 21 }
     ensures { result ≡ shape_of (take (head_size header.now.cluster_bits) bytes.now) header.now }

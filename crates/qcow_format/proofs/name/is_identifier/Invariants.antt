@@ -1,4 +1,4 @@
-use Rattle.std.proofs.Common.{◌≡◌, length, drop}
+use Rattle.std.proofs.Common.{◌≡◌, drop}
 use Rattle.qcow_format.specs.Name.{are_id_bytes}
 use Rattle.qcow_format.proofs.name.is_identifier.Given as goal
 
