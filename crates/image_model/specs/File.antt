@@ -16,7 +16,7 @@ abbrev pub sector_in : ℕ → (ℕ → List ℕ) → ℕ → List ℕ
 sector_in sectors sector k = if nat_lt k sectors then sector k else replicate 512 0
 
 -- the file of a number of sectors with these bytes: a stable file, an outcome, or what a host sees
-abbrev pub file_of : ℕ → (ℕ → List ℕ) → File
+unfoldable pub file_of : ℕ → (ℕ → List ℕ) → File
 file_of sectors sector = record {
   size = 512 * sectors;
   head = flat_map (sector_in sectors sector) (range_with_len 0 128);
