@@ -9,7 +9,7 @@ use Rattle.sd_names.specs.declared.place.Dir.TheVariants.{Root}
 use Rattle.sd_names.specs.declared.place.Place.{Place}
 use Rattle.shared_disk.specs.declared.entry.FileEntry.{FileEntry}
 use Rattle.shared_disk.specs.declared.entry.Write.{Write}
-use Rattle.shared_disk.specs.declared.sectors.Sectors.{Sectors}
+use Rattle.shared_disk.specs.declared.sector_map.Sectors.{Sectors}
 use Rattle.shared_disk.specs.Content.{File, Loose, IsEmpty, zero_sector, writes, sector_of}
 use Rattle.shared_disk.specs.Calls.{IsPut, IsDirPut, created, wrote, sectors_in}
 use Rattle.shared_disk.specs.Places.{dir_is, place_is}

@@ -8,7 +8,7 @@ use Rattle.sd_names.specs.declared.place.Dir.{Dir}
 use Rattle.sd_names.specs.declared.place.Place.{Place}
 use Rattle.shared_disk.specs.declared.entry.FileEntry.{FileEntry}
 use Rattle.shared_disk.specs.declared.entry.Write.{Write}
-use Rattle.shared_disk.specs.declared.sectors.Sectors.{Sectors}
+use Rattle.shared_disk.specs.declared.sector_map.Sectors.{Sectors}
 use Rattle.shared_disk.specs.Content.{own_of, without, unless_by, zero_sector}
 use Rattle.shared_disk.specs.Calls.{IsPut, synced}
 use Rattle.shared_disk.specs.Sectors.{sector_at}

@@ -1,7 +1,7 @@
 -- Sectors by owner, file and number: what a memory disk keeps.
 use Rattle.std.specs.Prelude.{ℕ, ◌+◌, ◌==◌, ◌&&◌, Bool, List, Option}
 use Rattle.std.specs.HashMap.{get, hash_map_len, spare}
-use Rattle.shared_disk.specs.declared.sectors.Sectors.{Sectors}
+use Rattle.shared_disk.specs.declared.sector_map.Sectors.{Sectors}
 
 -- whether the two name one sector
 abbrev pub key_eq : ℕ × ℕ × ℕ → ℕ × ℕ × ℕ → Bool

@@ -7,7 +7,7 @@ use Rattle.sd_names.specs.declared.place.Dir.TheVariants.{Root}
 use Rattle.sd_names.specs.declared.place.Place.{Place}
 use Rattle.shared_disk.specs.declared.entry.FileEntry.{FileEntry}
 use Rattle.shared_disk.specs.declared.entry.Write.{Write}
-use Rattle.shared_disk.specs.declared.sectors.Sectors.{Sectors}
+use Rattle.shared_disk.specs.declared.sector_map.Sectors.{Sectors}
 use Rattle.shared_disk.specs.Content.{Content, File, Loose, zero_sector}
 use Rattle.shared_disk.specs.Places.{dir_is, place_is}
 use Rattle.shared_disk.specs.Sectors.{sector_at}

@@ -7,7 +7,7 @@ pub mod laws;
 mod log;
 mod memory;
 mod refusal;
-mod sectors;
+mod sector_map;
 mod store;
 
 pub use disk::{DiskAnswer, SharedDisk};

@@ -5,7 +5,7 @@ ghost use Rattle.shared_disk.specs.Sectors.{sector_at, kept_count, kept_room};
 ghost use Rattle.shared_disk.specs.Store.{is_by, loose_of, others_of, or_else};
 
 use crate::entry::Write;
-use crate::sectors::{MEDIUM, Sectors};
+use crate::sector_map::{MEDIUM, Sectors};
 use sd_names::HostId;
 
 /// Whether a write is by a host in a file.

@@ -10,7 +10,7 @@ ghost use Rattle.shared_disk.specs.Store.{has_dir, found, loose_of, content_of, 
 use crate::DiskAnswer;
 use crate::entry::{FileEntry, Write};
 use crate::log::{forget, index, settle};
-use crate::sectors::{MEDIUM, Sectors};
+use crate::sector_map::{MEDIUM, Sectors};
 use sd_names::{Dir, HostId, Place};
 use std::alloc::{AllocError, Global};
 

@@ -5,6 +5,7 @@ use Rattle.shared_disk.specs.Store.{loose_of}
 use Rattle.shared_disk.proofs.store.Store.seen.Goals as goal
 
 pub returns : goal.returns
+unfolding zero_sector
 returns c =
     let own : own_of c.args.host c.args.k (loose_of c.args.number c.args.self.now.log.items) ≡ None =
     sym (c.args.self.now.own_is c.args.host c.args.number c.args.k (omega arith))

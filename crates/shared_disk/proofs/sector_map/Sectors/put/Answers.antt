@@ -2,7 +2,7 @@
 use Rattle.std.proofs.Common.{◌≡◌, ◌<◌, Some, Ok, Err, Option, Result, OnOk, IsOk, arith, refl, subst}
 use Rattle.std.specs.HashMap.{spare}
 use Rattle.std.specs.Option.{IsSome}
-use Rattle.shared_disk.proofs.sectors.Sectors.put.Goals as goal
+use Rattle.shared_disk.proofs.sector_map.Sectors.put.Goals as goal
 
 ok_gives : {T E P : Type 0} (r : Result T E) → IsOk r → OnOk r P → P
 ok_gives (Ok x) ok p = p
