@@ -75,7 +75,7 @@ fn read(disk: &mut Memory, host: HostId, raw: &Raw, at: u8) -> Answer {
     }
 }
 
-fn answer(disk: &mut Memory, place: Place, call: Call) -> Option<Answer> {
+fn made(disk: &mut Memory, place: Place, call: Call) -> Option<Answer> {
     match call {
         Call::Write(known, at, byte) => {
             let raw = Raw::new(place, 8192, 512 * known as u64);
@@ -109,7 +109,7 @@ fn what_is_written_is_read_and_zeros_past_the_end(rt: HostRuntime) -> Result<(),
         (ABSENT, Call::Write(0, 0, 7), Answer::Refused(122)),
     ];
     for (place, call, want) in table {
-        assert_eq!(rt; answer(&mut disk, place, call), Some(want), "{call:?}");
+        assert_eq!(rt; made(&mut disk, place, call), Some(want), "{call:?}");
     }
     assert_eq!(rt; Raw::new(FILE, 8192, 0).capacity(), 8192);
     Ok(())
@@ -132,11 +132,11 @@ fn a_fault_of_each_call(rt: HostRuntime) -> Result<(), Fail> {
         let mut disk = Memory::new(alloc, Vec::new(alloc), failing, 20)?;
         assert_eq!(rt; make_file(&mut disk, host), Ok(()));
         assert_eq!(rt;
-            answer(&mut disk, FILE, call),
+            made(&mut disk, FILE, call),
             Some(Answer::Fault(1)),
             "{call:?}"
         );
-        assert_eq!(rt; answer(&mut disk, FILE, call), Some(then), "{call:?}");
+        assert_eq!(rt; made(&mut disk, FILE, call), Some(then), "{call:?}");
     }
     Ok(())
 }
