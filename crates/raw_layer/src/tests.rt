@@ -55,15 +55,21 @@ fn make_file(disk: &mut Memory, host: HostId) -> Result<(), DiskAnswer> {
 }
 
 fn write(disk: &mut Memory, host: HostId, raw: &Raw, at: u8, part: &[u8; 1024]) -> Answer {
-    let mut work = RawWrite::begin(raw, 512 * at as u64);
-    for steps in 1..4 {
-        match work.step(host, disk, part) {
-            Turn::More(next) => work = next,
-            Turn::Done(()) => return Answer::Written(steps),
-            Turn::Ended((), refusal) => return refused(refusal),
-        }
+    let second = match RawWrite::begin(raw, 512 * at as u64).step(host, disk, part) {
+        Turn::More(next) => next,
+        Turn::Done(()) => return Answer::Written(1),
+        Turn::Ended((), refusal) => return refused(refusal),
+    };
+    let third = match second.step(host, disk, part) {
+        Turn::More(next) => next,
+        Turn::Done(()) => return Answer::Written(2),
+        Turn::Ended((), refusal) => return refused(refusal),
+    };
+    match third.step(host, disk, part) {
+        Turn::More(_) => Answer::Written(4),
+        Turn::Done(()) => Answer::Written(3),
+        Turn::Ended((), refusal) => refused(refusal),
     }
-    Answer::Written(4)
 }
 
 fn read(disk: &mut Memory, host: HostId, raw: &Raw, at: u8) -> Answer {
