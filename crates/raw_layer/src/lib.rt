@@ -8,3 +8,6 @@ mod write;
 pub use raw::Raw;
 pub use read::RawRead;
 pub use write::RawWrite;
+
+#[cfg(test)]
+mod tests;

@@ -11,7 +11,6 @@ use Rattle.uuid.proofs.TextLemmas.{by_index_length, by_index_at, by_index_same, 
 use Rattle.uuid.proofs.RoundTrips.{parses_hyphenated}
 use Rattle.std.specs.Option.{option_map}
 use Rattle.sd_names.specs.Id.{IsIdBytes, ReadsAs, id_text, id_of}
-use Rattle.sd_names.specs.declared.id.Id.{Id}
 
 pub id_text-length : (bytes : List ℕ) → length (id_text bytes) ≡ 36
 id_text-length bytes = by_index_length 36 _

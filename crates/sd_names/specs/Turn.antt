@@ -1,5 +1,4 @@
 -- What a step hands back, by cases.
-use Rattle.std.specs.Prelude.{◌≡◌}
 use Rattle.sd_names.specs.declared.refusal.Refusal.{Refusal}
 use Rattle.sd_names.specs.declared.turn.Turn.{Turn}
 use Rattle.sd_names.specs.declared.turn.Turn.TheVariants.{More, Done, Ended}

@@ -310,23 +310,4 @@ pub fn place_order_is_total()
 {}
 
 #[cfg(test)]
-mod tests {
-    use super::*;
-
-    #[test]
-    fn files_of_one_folder_differ_by_name(rt: HostRuntime) {
-        let dir = Dir::Tasks(Id::ZERO);
-        let task = Place {
-            dir,
-            name: Name::Task(Id::ZERO),
-        };
-        let text = Place {
-            dir,
-            name: Name::TaskNew(Id::ZERO),
-        };
-        assert!(rt; task.is(&task));
-        assert!(rt; !task.is(&text));
-        assert!(rt; task.dir.is(&text.dir));
-        assert!(rt; !task.name.is(&text.name));
-    }
-}
+mod tests;

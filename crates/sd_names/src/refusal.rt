@@ -373,3 +373,6 @@ pub fn push_refusal(text: &mut Vec<u8>, refusal: &Refusal)
     let refusal_text = refusal.text();
     push_all(text, refusal_text.as_bytes())
 }
+
+#[cfg(test)]
+mod tests;

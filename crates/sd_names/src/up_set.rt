@@ -77,3 +77,38 @@ impl UpSet {
         self.up.iter().filter(|up| **up).count() as u16
     }
 }
+
+#[cfg(test)]
+mod tests {
+    use super::*;
+    use std::test::Fail;
+
+    #[test]
+    fn hosts_come_and_go(rt: HostRuntime) -> Result<(), Fail> {
+        let two = HostId::new(2).ok_or("2")?;
+        let last = HostId::new(250).ok_or("250")?;
+        let mut up = UpSet::new();
+        assert!(rt; up.count() == 0);
+        assert!(rt; up.least_but(two).is_none());
+        up.add(last);
+        up.add(two);
+        assert!(rt; up.has(two));
+        assert!(rt; up.count() == 2);
+        assert!(rt; up.least_but(two).ok_or("one")?.get() == 250);
+        assert!(rt; up.least_but(last).ok_or("one")?.get() == 2);
+        up.remove(two);
+        assert!(rt; !up.has(two));
+        assert!(rt; up.has(last));
+        Ok(())
+    }
+
+    #[test]
+    fn hosts_are_1_to_250(rt: HostRuntime) {
+        for number in [0, 251, 256, 257, u64::MAX] {
+            assert!(rt; HostId::new(number).is_none());
+        }
+        for number in [1, 250] {
+            assert!(rt; HostId::new(number).is_some());
+        }
+    }
+}

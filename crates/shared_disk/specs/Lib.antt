@@ -1,3 +1,10 @@
 pub mod Content
 pub mod Calls
 pub mod Refusal
+pub mod Places
+pub mod Sectors
+pub mod Store
+pub mod Held
+pub mod Parts
+pub mod Crash
+pub mod Changes

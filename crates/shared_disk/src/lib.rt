@@ -2,7 +2,17 @@
 #![tactic(auto)]
 
 mod disk;
+mod entry;
+pub mod laws;
+mod log;
+mod memory;
 mod refusal;
+mod sector_map;
+mod store;
 
 pub use disk::{DiskAnswer, SharedDisk};
+pub use memory::{Memory, Pick};
 pub use refusal::refusal_for;
+
+#[cfg(test)]
+mod tests;

@@ -1,0 +1,18 @@
+//! Texts of keys and values, a pair on each line, read and written in place.
+#![tactic(auto)]
+
+mod lines;
+mod lookup;
+mod number;
+mod pair;
+mod split;
+mod writer;
+
+pub use lines::Lines;
+pub use lookup::{first_bad_line, has_eof, value_of};
+pub use number::read_number;
+pub use pair::Pair;
+pub use writer::KvWriter;
+
+#[cfg(test)]
+mod tests;

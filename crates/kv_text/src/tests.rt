@@ -1,0 +1,90 @@
+use super::*;
+use std::alloc::{AllocError, Global};
+
+// What the lines of a text are, as text: a pair as `<key|value>`, a line without `=` as `!` and its number,
+// and `.` where a line `EOF` was met.
+fn shown(alloc: Global, text: &[u8]) -> Result<Vec<u8>, AllocError> {
+    let mut out = Vec::new(alloc);
+    let mut lines = Lines::new(text);
+    for item in lines.by_ref() {
+        match item {
+            Ok(pair) => {
+                out.extend_from_slice(b"<")?;
+                out.extend_from_slice(pair.key)?;
+                out.extend_from_slice(b"|")?;
+                out.extend_from_slice(pair.value)?;
+                out.extend_from_slice(b">")?;
+            }
+            Err(number) => out.extend_from_slice(format!(in alloc; "!{number}")?.as_bytes())?,
+        }
+    }
+    if lines.ended() {
+        out.extend_from_slice(b".")?;
+    }
+    Ok(out)
+}
+
+#[test]
+fn reads(rt: HostRuntime) -> Result<(), AllocError> {
+    let cases = [
+        ("", ""),
+        ("A=1\n\nB==2=\nEOF\nC=3\n", "<A|1><B|=2=>."),
+        ("EOF", "."),
+        ("A=1", "<A|1>"),
+        ("x\n\nA = 1 \nEOFs\n=\n", "!1<A | 1 >!4<|>"),
+        ("A=1\nA=2\nEOF=\r\nEOF\r\n", "<A|1><A|2><EOF|\r>!4"),
+    ];
+    for (text, want) in cases {
+        let found = shown(rt.alloc(), text.as_bytes())?;
+        assert_eq!(rt; found.as_slice(), want.as_bytes());
+    }
+    Ok(())
+}
+
+#[test]
+fn writes(rt: HostRuntime) {
+    let mut buffer = [b'.'; 12];
+    let mut writer = KvWriter::new(&mut buffer);
+    writer.push(b"AB", b"=c");
+    writer.push(b"D", b"");
+    assert_eq!(rt; writer.finish(), 9);
+    assert_eq!(rt; buffer.as_slice(), b"AB==c\nD=\n...".as_slice());
+}
+
+#[test]
+fn looks_up(rt: HostRuntime) {
+    let text = b"A=1\nB=\n\nA=2\nEOF\nB=3";
+    let cases = [
+        ("A", Some("2")),
+        ("B", Some("")),
+        ("C", None),
+        ("", None),
+        ("EOF", None),
+    ];
+    for (key, want) in cases {
+        let found = value_of(text, key.as_bytes());
+        assert!(rt; found == want.map(|value| value.as_bytes()));
+    }
+    assert!(rt; has_eof(text));
+    assert!(rt; !has_eof(b"A=1\n EOF\n"));
+    assert!(rt; first_bad_line(text).is_none());
+    assert!(rt; first_bad_line(b"\nA=1\nA\nB") == Some(3));
+    assert!(rt; first_bad_line(b"EOF\nA").is_none());
+}
+
+#[test]
+fn numbers(rt: HostRuntime) {
+    let cases = [
+        ("0", Some(0)),
+        ("007", Some(7)),
+        ("18446744073709551615", Some(18446744073709551615)),
+        ("18446744073709551616", None),
+        ("000000000000000000001", None),
+        ("", None),
+        ("+1", None),
+        ("1 ", None),
+    ];
+    for (value, want) in cases {
+        assert_eq!(rt; read_number(value.as_bytes()), want);
+    }
+}

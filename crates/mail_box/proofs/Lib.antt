@@ -1,0 +1,4 @@
+pub mod Chunks
+pub mod Fields
+pub mod Scan
+pub mod Seal

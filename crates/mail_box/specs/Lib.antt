@@ -1,0 +1,4 @@
+pub mod Slots
+pub mod Lending
+pub mod Spelling
+pub mod Puts

@@ -1,0 +1,14 @@
+-- What a store holds, and how much of its room.
+use Rattle.std.specs.Prelude.{ℕ, ◌+◌, vec_len}
+use Rattle.shared_disk.specs.declared.store.Store.{Store}
+use Rattle.shared_disk.specs.Content.{Content}
+use Rattle.shared_disk.specs.Sectors.{kept_count}
+use Rattle.shared_disk.specs.Store.{content_of}
+
+-- what it holds
+abbrev pub held : Store → Content
+held s = content_of s.dirs.items s.files.items s.stable s.log.items
+
+-- how many units it holds: folders, files, stable sectors and unsynced writes of a sector
+abbrev pub units : Store → ℕ
+units s = vec_len s.dirs + vec_len s.files + kept_count s.stable + vec_len s.log

@@ -1,0 +1,81 @@
+// Laws of the disk's definitions: contracts of functions that do nothing.
+ghost use Rattle.std.specs.Prelude.{◌≡◌, ℕ, ◌+◌, ◌-◌, ◌<◌, ◌≤◌, ◌⊎◌, ◌++◌, ◌≢◌, Bool, true, Contains, List, Option, None, Some, unwrap_or};
+ghost use Rattle.sd_names.specs.declared.place.Place.{Place};
+ghost use Rattle.shared_disk.specs.Calls.{IsPut, synced, wrote};
+ghost use Rattle.shared_disk.specs.Changes.{IsChangedAt, exchanged, raised};
+ghost use Rattle.shared_disk.specs.Content.{Content, File, Loose, own_of, seen, without, writes, sector_of, zero_sector};
+ghost use Rattle.shared_disk.specs.Crash.{AllDown, Covers, DownLeaves, IsAlone, IsDownFile, IsFileOutcome, IsLaidOver, IsOutcome, IsOutcomeSector, IsSettled, stable_folder, with_file};
+
+/// What a host that is alone in a file sees of a sector, and a sync puts onto the medium, after it wrote a piece: the
+/// piece's sectors where the write was done whole, and what was there (`before`) elsewhere. Where only some sectors
+/// were written, each is the one or the other.
+pub fn own_write_is_seen()
+    ensures within { (host at n k : ℕ) (bytes before : List ℕ) → at ≤ k → k < at + n → unwrap_or (own_of host k (writes (λ _. true) host at bytes n)) before ≡ sector_of bytes (k - at) }
+    ensures outside { (did : ℕ → Bool) (host at n k : ℕ) (bytes before : List ℕ) → (k < at) ⊎ (at + n ≤ k) → unwrap_or (own_of host k (writes did host at bytes n)) before ≡ before }
+    ensures either { (did : ℕ → Bool) (host at n k : ℕ) (bytes before : List ℕ) → (unwrap_or (own_of host k (writes did host at bytes n)) before ≡ before) ⊎ ((at ≤ k) × (k < at + n) × (unwrap_or (own_of host k (writes did host at bytes n)) before ≡ sector_of bytes (k - at))) }
+{}
+
+/// A host's writes of a piece are gone with its other unsynced writes; those of all other hosts stay.
+pub fn own_writes_go_together()
+    ensures { (did : ℕ → Bool) (host at n : ℕ) (bytes : List ℕ) (others : List Loose) → without host (writes did host at bytes n ++ others) ≡ without host others }
+{}
+
+/// An outcome of a file after a write, one that failed included, is an outcome from before with some of the written
+/// sectors laid over it.
+pub fn outcome_after_a_write()
+    ensures { (did : ℕ → Bool) (host at : ℕ) (bytes : List ℕ) (f g : File) → IsFileOutcome (wrote did host at bytes f) g → (o : File) × IsFileOutcome f o × IsLaidOver did at bytes o g }
+{}
+
+/// An outcome of a file after a sync is an outcome from before. Where no other host has anything unsynced in it, it is
+/// the file as the host saw it.
+pub fn outcome_after_a_sync()
+    ensures before { (host : ℕ) (f g : File) → IsFileOutcome (synced host f) g → IsFileOutcome f g }
+    ensures alone { (host : ℕ) (f g : File) → IsAlone host f → IsFileOutcome (synced host f) g → (k : ℕ) → g.stable k ≡ seen host f k }
+{}
+
+/// An outcome after a host went down is an outcome from before, of a file and of a folder.
+pub fn outcome_after_a_down()
+    ensures file { (host : ℕ) (f g o : File) → IsDownFile host f g → IsFileOutcome g o → IsFileOutcome f o }
+    ensures folder { (host : ℕ) (d e o : Content) → DownLeaves d host e → IsOutcome e o → IsOutcome d o }
+{}
+
+/// The outcomes of a folder are what is left when the hosts that have something unsynced in it go down one after the
+/// other, in any order and however often.
+pub fn outcomes_are_what_hosts_leave()
+    ensures reached { (hosts : List ℕ) (d e : Content) → Covers hosts d → IsOutcome d e → AllDown d hosts e }
+    ensures all { (hosts : List ℕ) (d e : Content) → Covers hosts d → AllDown d hosts e → IsOutcome d e }
+{}
+
+/// A file with nothing unsynced is its only outcome.
+pub fn outcome_of_a_settled_file()
+    ensures only { (f g : File) → IsSettled f → IsFileOutcome f g → g ≡ f }
+    ensures itself { (f : File) → IsSettled f → IsFileOutcome f f }
+{}
+
+/// Each folder has an outcome, and an outcome of one of its files in place of the one that an outcome of the folder
+/// has gives an outcome again.
+pub fn outcomes_file_by_file()
+    ensures some { (d : Content) → IsOutcome d (stable_folder d) }
+    ensures one { (d o : Content) (p : Place) (f g : File) → d.file p ≡ Some f → IsFileOutcome f g → IsOutcome d o → IsOutcome d (with_file p g o) }
+    ensures here { (o : Content) (p : Place) (g : File) → (with_file p g o).file p ≡ Some g }
+    ensures other { (o : Content) (p q : Place) (g : File) → q ≢ p → (with_file p g o).file q ≡ o.file q }
+{}
+
+/// An outcome after a change of one file is an outcome from before with that file changed, whichever outcome of the
+/// file that one has.
+pub fn outcome_after_a_change()
+    ensures { (d e o : Content) (p : Place) (f g : File) (new : Option File) → IsPut d p new e → d.file p ≡ Some f → IsFileOutcome f g → IsOutcome e o → IsOutcome d (with_file p g o) × IsPut (with_file p g o) p (o.file p) o }
+{}
+
+/// An outcome of a file after an exchange of a sector, where the file isn't fresh, is one from before with the new
+/// sector in its place.
+pub fn outcome_after_an_exchange()
+    ensures { (sector : ℕ) (next : List ℕ) (f g : File) → f.fresh ≡ None → IsFileOutcome (exchanged sector next f) g → (o : File) × IsFileOutcome f o × IsChangedAt sector next o g }
+{}
+
+/// A sector that a file had is on an outcome, after the file was raised, as on one from before. The further sectors are
+/// zeros, where the file isn't fresh and its unsynced writes lie within its old size.
+pub fn outcome_after_a_raise()
+    ensures old { (size k : ℕ) (f : File) (b : List ℕ) → k < f.size → IsOutcomeSector (raised size f) k b → IsOutcomeSector f k b }
+    ensures new { (size k : ℕ) (f : File) (b : List ℕ) → f.size ≤ k → f.fresh ≡ None → ((l : Loose) → Contains f.loose l → l.sector < f.size) → IsOutcomeSector (raised size f) k b → b ≡ zero_sector }
+{}

@@ -1,0 +1,169 @@
+// A shared folder in memory.
+ghost use Rattle.std.specs.Prelude.{◌≡◌, ◌≢◌, ℕ, ◌+◌, ◌-◌, ◌*◌, ◌/◌, ◌^◌, ◌<◌, ◌≤◌, ◌↔◌, min, Some, IfOk, IsErrOf, IsTrue, Contains, if◌then◌else◌, Option};
+ghost use Rattle.shared_disk.specs.Calls.{Told};
+ghost use Rattle.shared_disk.specs.Content.{Content, IsEmpty};
+
+use crate::store::Store;
+use crate::{DiskAnswer, SharedDisk};
+use sd_names::{Dir, HostId, NoMemory, Place};
+use std::alloc::Global;
+
+/// How a sector that a host had not synced is settled when the host goes down.
+#[derive(Clone, Copy, Debug)]
+pub enum Pick {
+    /// As it is on the medium.
+    Old,
+    /// As it was written last.
+    New,
+    /// Filled with this byte, in a file that the host made and had not synced; as it is on the medium in any other.
+    Byte(u8),
+}
+
+/// A shared folder in memory, which fails in the calls that it is told to fail in. It takes its memory at once and
+/// keeps only sectors that were written. Each folder but the root, each file, each sector on the medium and each
+/// unsynced write of a sector is one unit; a call that would need more units than its room fails. A call that fails
+/// changes nothing.
+#[derive(Drop)]
+pub struct Memory {
+    picks: Vec<Pick>,
+    failing: Vec<u64>,
+    calls: u64,
+    faults: u64,
+    store: Store,
+    ghost faults_fit: { faults < 2 ^ 64 },
+}
+
+// One more, up to 2^64 - 1.
+fn bump(count: &mut u64)
+    ensures { count.new ≡ min (count.old + 1) (2 ^ 64 - 1) }
+{
+    *count = count.saturating_add(1);
+}
+
+impl Memory {
+    ghost use Rattle.shared_disk.specs.Parts.{content_of_memory};
+
+    /// An empty folder with room for so many units. The calls with the numbers in `failing` fail; the first call has
+    /// the number 0.
+    pub fn new(
+        alloc: Global,
+        picks: Vec<Pick>,
+        failing: Vec<u64>,
+        room: u64,
+    ) -> Result<Memory, NoMemory>
+        ensures empty { IfOk result (λ m. (d : Content) × (content_of_memory m ≡ Some d) × IsEmpty d) }
+    {
+        match Store::new(alloc, room as usize) {
+            Ok(store) => Ok(Memory {
+                picks,
+                failing,
+                calls: 0,
+                faults: 0,
+                store,
+            }),
+            Err(_) => Err(NoMemory),
+        }
+    }
+
+    // Counts a call, and answers whether it is one that fails.
+    fn fails(&mut self) -> bool
+        ensures calls { self.new.calls ≡ min (self.old.calls + 1) (2 ^ 64 - 1) }
+        ensures faults { self.new.faults ≡ (if result then min (self.old.faults + 1) (2 ^ 64 - 1) else self.old.faults) }
+        ensures store { self.new.store ≡ self.old.store }
+        ensures listed { IsTrue result ↔ Contains self.old.failing.items self.old.calls }
+    {
+        let listed = self.failing.contains(&self.calls);
+        bump(&mut self.calls);
+        if listed {
+            bump(&mut self.faults);
+        }
+        listed
+    }
+
+    // Counts a fault, where a call found no room.
+    fn count(&mut self, answer: Result<(), DiskAnswer>)
+        ensures calls { self.new.calls ≡ self.old.calls }
+        ensures store { self.new.store ≡ self.old.store }
+        ensures failed { IsErrOf answer DiskAnswer.Failed → self.new.faults ≡ min (self.old.faults + 1) (2 ^ 64 - 1) }
+        ensures other { ¬ IsErrOf answer DiskAnswer.Failed → self.new.faults ≡ self.old.faults }
+        ensures no_less { self.old.faults ≤ self.new.faults }
+    {
+        if let Err(DiskAnswer::Failed) = answer {
+            bump(&mut self.faults);
+        }
+    }
+}
+
+impl SharedDisk for Memory {
+    ghost use Rattle.shared_disk.specs.Held.{held};
+
+    ghost content = { λ m. Some (held m.store) };
+
+    ghost faults = { λ m. m.faults };
+
+    ghost calls = { λ m. m.calls };
+
+    fn read_at(
+        &mut self,
+        host: HostId,
+        place: Place,
+        at: u64,
+        into: &mut [u8],
+    ) -> Result<usize, DiskAnswer> {
+        if self.fails() {
+            return Err(DiskAnswer::Failed);
+        }
+        self.store.read_at(host, place, at, into)
+    }
+
+    fn write_at(
+        &mut self,
+        host: HostId,
+        place: Place,
+        at: u64,
+        bytes: &[u8],
+    ) -> Result<(), DiskAnswer> {
+        if self.fails() {
+            return Err(DiskAnswer::Failed);
+        }
+        let answer = self.store.write_at(host, place, at, bytes);
+        self.count(answer);
+        answer
+    }
+
+    fn sync(&mut self, host: HostId, place: Place) -> Result<(), DiskAnswer> {
+        if self.fails() {
+            return Err(DiskAnswer::Failed);
+        }
+        self.store.sync(host, place)
+    }
+
+    fn create(&mut self, host: HostId, place: Place, length: u64) -> Result<(), DiskAnswer> {
+        if self.fails() {
+            return Err(DiskAnswer::Failed);
+        }
+        let answer = self.store.create(host, place, length);
+        self.count(answer);
+        answer
+    }
+
+    fn length(&mut self, _host: HostId, place: Place) -> Result<u64, DiskAnswer> {
+        if self.fails() {
+            return Err(DiskAnswer::Failed);
+        }
+        self.store.length(place)
+    }
+
+    fn make_dir(&mut self, _host: HostId, dir: Dir) -> Result<(), DiskAnswer> {
+        if self.fails() {
+            return Err(DiskAnswer::Failed);
+        }
+        let answer = self.store.make_dir(dir);
+        self.count(answer);
+        answer
+    }
+
+    fn fault_count(&self) -> u64 {
+        self.faults
+    }
+}

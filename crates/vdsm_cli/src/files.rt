@@ -1,0 +1,181 @@
+// What the calls of a folder's disk do with the files of the system, whatever it is that keeps them.
+ghost use Rattle.std.specs.Prelude.{true, false, ◌≡◌, ◌≢◌, ◌-◌, ◌^◌, ◌<◌, ◌≤◌, min, length, IfOk, IfErr, Ok, IsOk, ◌↔◌, IfSome, Some};
+ghost use Rattle.std.specs.IoError.{error_kind};
+ghost use Rattle.vdsm_cli.specs.Length.{padded};
+
+use shared_disk::DiskAnswer;
+use std::fs::{File, Files, OpenFile, OpenOptions};
+use std::io::{Error, ErrorKind, Read, Seek, SeekFrom, Write};
+
+/// Bytes in a sector: a file's length is shown as a multiple of it.
+const SECTOR: u64 = 512;
+
+/// The answer for an error of the system at a path: `NoFile` where nothing is there, and else a fault.
+pub(crate) fn answer_for(error: Error) -> DiskAnswer
+    ensures absent { error_kind error ≡ ErrorKind.NotFound → result ≡ DiskAnswer.NoFile }
+    ensures fault { error_kind error ≢ ErrorKind.NotFound → result ≡ DiskAnswer.Failed }
+{
+    match error.kind() {
+        ErrorKind::NotFound => DiskAnswer::NoFile,
+        _ => DiskAnswer::Failed,
+    }
+}
+
+// The answer for an error of the system where something was to be made: `Exists` where it is there already.
+fn answer_for_new(error: Error, is_there: bool) -> DiskAnswer
+    ensures absent { error_kind error ≡ ErrorKind.NotFound → result ≡ DiskAnswer.NoFile }
+    ensures exists { error_kind error ≡ ErrorKind.AlreadyExists → is_there ≡ true → result ≡ DiskAnswer.Exists }
+    ensures other { error_kind error ≡ ErrorKind.AlreadyExists → is_there ≡ false → result ≡ DiskAnswer.Failed }
+    ensures fault { error_kind error ≢ ErrorKind.NotFound → error_kind error ≢ ErrorKind.AlreadyExists → result ≡ DiskAnswer.Failed }
+{
+    match error.kind() {
+        ErrorKind::NotFound => DiskAnswer::NoFile,
+        ErrorKind::AlreadyExists if is_there => DiskAnswer::Exists,
+        _ => DiskAnswer::Failed,
+    }
+}
+
+/// The length that the disk shows of a file of so many bytes: padded with zeros to whole sectors.
+pub(crate) fn shown_length(stored: u64) -> Result<u64, DiskAnswer>
+    ensures shown { IfOk result (λ shown. shown ≡ padded stored) }
+    ensures answered { padded stored < 2 ^ 64 → IsOk result }
+    ensures fault { IfErr result (λ answer. answer ≡ DiskAnswer.Failed) }
+{
+    match stored.checked_next_multiple_of(SECTOR) {
+        Some(shown) => Ok(shown),
+        None => Err(DiskAnswer::Failed),
+    }
+}
+
+/// How many of so many bytes from `at` on lie before an end.
+pub(crate) fn count_before(end: u64, at: u64, most: usize) -> usize
+    ensures { result ≡ min most (end - at) }
+{
+    (most as u64).min(end.saturating_sub(at)) as usize
+}
+
+// How many bytes an open file has. Anything else than a file at its path is a fault.
+fn stored_length<F: OpenFile>(file: &F) -> Result<u64, DiskAnswer> {
+    match file.metadata() {
+        Ok(metadata) if metadata.is_file() => Ok(metadata.len()),
+        _ => Err(DiskAnswer::Failed),
+    }
+}
+
+// Reads bytes that a file has. For none it asks nothing of the file.
+fn read_stored<F: Read + Seek>(file: &mut F, at: u64, into: &mut [u8]) -> Result<(), DiskAnswer> {
+    if into.is_empty() {
+        return Ok(());
+    }
+    if file.seek(SeekFrom::Start(at)).is_err() || file.read_exact(into).is_err() {
+        return Err(DiskAnswer::Failed);
+    }
+    Ok(())
+}
+
+/// Reads from `at` on to the end that is shown of the file or of `into`. Past what the file has there are zeros.
+pub(crate) fn read<R: Files>(
+    rt: &R,
+    path: &str,
+    at: u64,
+    into: &mut [u8],
+) -> Result<usize, DiskAnswer>
+    ensures bound { IfOk result (λ count. count ≤ length into.old) }
+{
+    let mut file = File::open(rt, path).map_err(answer_for)?;
+    let stored = stored_length(&file)?;
+    let count = count_before(shown_length(stored)?, at, into.len());
+    let kept = count_before(stored, at, count);
+    read_stored(&mut file, at, &mut into[..kept])?;
+    into[kept..count].fill(0);
+    Ok(count)
+}
+
+/// Writes from `at` on, inside the length that is shown of the file.
+pub(crate) fn write<R: Files>(rt: &R, path: &str, at: u64, bytes: &[u8]) -> Result<(), DiskAnswer> {
+    let mut file = OpenOptions::new()
+        .write(true)
+        .open(rt, path)
+        .map_err(answer_for)?;
+    let shown = shown_length(stored_length(&file)?)?;
+    if count_before(shown, at, bytes.len()) < bytes.len() {
+        return Err(DiskAnswer::OutOfFile);
+    }
+    if file.seek(SeekFrom::Start(at)).is_err() || file.write_all(bytes).is_err() {
+        return Err(DiskAnswer::Failed);
+    }
+    Ok(())
+}
+
+/// Flushes a file to the medium.
+pub(crate) fn sync<R: Files>(rt: &R, path: &str) -> Result<(), DiskAnswer> {
+    let file = OpenOptions::new()
+        .write(true)
+        .open(rt, path)
+        .map_err(answer_for)?;
+    match file.sync_all() {
+        Ok(()) => Ok(()),
+        Err(_) => Err(DiskAnswer::Failed),
+    }
+}
+
+/// Flushes to the medium what was made in a folder.
+pub(crate) fn sync_dir<R: Files>(rt: &R, path: &str) -> Result<(), DiskAnswer>
+    ensures { IfErr result (λ answer. answer ≡ DiskAnswer.Failed) }
+{
+    match File::open(rt, path) {
+        Ok(dir) => match dir.sync_all() {
+            Ok(()) => Ok(()),
+            Err(_) => Err(DiskAnswer::Failed),
+        },
+        Err(_) => Err(DiskAnswer::Failed),
+    }
+}
+
+/// Makes a sparse file of zeros, and flushes its length. Where that fails the file is taken away again, so that none
+/// of another length stays.
+pub(crate) fn create<R: Files>(rt: &R, path: &str, length: u64) -> Result<(), DiskAnswer> {
+    let file = OpenOptions::new()
+        .write(true)
+        .create_new(true)
+        .open(rt, path)
+        .map_err(|error| answer_for_new(error, is_file(rt, path)))?;
+    if file.set_len(length).is_err() || file.sync_all().is_err() {
+        let _ = rt.remove_file(path);
+        return Err(DiskAnswer::Failed);
+    }
+    Ok(())
+}
+
+// Whether a file stands at the path.
+fn is_file<R: Files>(rt: &R, path: &str) -> bool {
+    match rt.metadata(path) {
+        Ok(metadata) => metadata.is_file(),
+        Err(_) => false,
+    }
+}
+
+/// The length that is shown of a file.
+pub(crate) fn length<R: Files>(rt: &R, path: &str) -> Result<u64, DiskAnswer> {
+    let metadata = rt.metadata(path).map_err(answer_for)?;
+    if !metadata.is_file() {
+        return Err(DiskAnswer::Failed);
+    }
+    shown_length(metadata.len())
+}
+
+/// Makes a folder.
+pub(crate) fn make_dir<R: Files>(rt: &R, path: &str) -> Result<(), DiskAnswer> {
+    match rt.create_dir(path) {
+        Ok(()) => Ok(()),
+        Err(error) => Err(answer_for_new(error, is_dir(rt, path))),
+    }
+}
+
+// Whether a folder stands at the path.
+fn is_dir<R: Files>(rt: &R, path: &str) -> bool {
+    match rt.metadata(path) {
+        Ok(metadata) => metadata.is_dir(),
+        Err(_) => false,
+    }
+}

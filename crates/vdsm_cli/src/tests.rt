@@ -1,0 +1,180 @@
+// Every call and every answer in a real folder, and streams that fail in mid-stream.
+use crate::folder_disk::FolderDisk;
+use crate::std_stream::{StdSink, StdSource};
+use crate::words;
+use pool_session::{Sink, Source};
+use sd_names::{Dir, Failed, HostId, Id, Name, Place};
+use shared_disk::{DiskAnswer, SharedDisk};
+use std::io::{ErrorKind, Read, Write};
+use std::test::Fail;
+use std::{fs, io};
+
+// The shared folder of the test, in the folder that it runs in.
+const ROOT: &str = "shared_folder";
+
+const SD: Id = Id([0x11; 16]);
+
+const OTHER: Id = Id([0x22; 16]);
+
+const DIR: Dir = Dir::Images(SD);
+
+const FILE: Place = Place {
+    dir: DIR,
+    name: Name::Volume(OTHER),
+};
+
+const FILE_PATH: &str =
+    "shared_folder/11111111-1111-1111-1111-111111111111/images/22222222-2222-2222-2222-222222222222";
+
+#[test]
+fn a_missing_folder_answers_no_file(rt: HostRuntime) -> Result<(), Fail> {
+    let host = HostId::new(1).ok_or("no host")?;
+    let mut disk = FolderDisk::new(&rt, rt.alloc(), "missing_folder")?;
+    let mut sector = [7; 512];
+    assert!(rt; disk.make_dir(host, Dir::Domain(SD)) == Err(DiskAnswer::NoFile));
+    assert!(rt; disk.create(host, FILE, 512) == Err(DiskAnswer::NoFile));
+    assert!(rt; disk.length(host, FILE) == Err(DiskAnswer::NoFile));
+    assert!(rt; disk.read_at(host, FILE, 0, &mut sector) == Err(DiskAnswer::NoFile));
+    assert!(rt; disk.write_at(host, FILE, 0, &sector) == Err(DiskAnswer::NoFile));
+    assert!(rt; disk.sync(host, FILE) == Err(DiskAnswer::NoFile));
+    assert!(rt; disk.fault_count() == 0);
+    Ok(())
+}
+
+#[test]
+fn calls_in_a_real_folder(rt: HostRuntime) -> Result<(), Fail> {
+    let host = HostId::new(1).ok_or("no host")?;
+    let _ = fs::remove_dir_all(&rt, ROOT);
+    fs::create_dir(&rt, ROOT)?;
+    let mut disk = FolderDisk::new(&rt, rt.alloc(), ROOT)?;
+    assert!(rt; disk.make_dir(host, Dir::Domain(SD)) == Ok(()));
+    assert!(rt; disk.make_dir(host, Dir::Domain(SD)) == Err(DiskAnswer::Exists));
+    assert!(rt; disk.make_dir(host, DIR) == Ok(()));
+    assert!(rt; disk.create(host, FILE, 1024) == Ok(()));
+    assert!(rt; disk.create(host, FILE, 512) == Err(DiskAnswer::Exists));
+    assert!(rt; disk.length(host, FILE) == Ok(1024));
+    assert!(rt; disk.write_at(host, FILE, 512, &[0x41; 512]) == Ok(()));
+    assert!(rt; disk.write_at(host, FILE, 1024, &[0x42; 512]) == Err(DiskAnswer::OutOfFile));
+    assert!(rt; disk.write_at(host, FILE, 512, &[0x42; 1024]) == Err(DiskAnswer::OutOfFile));
+    assert!(rt; disk.sync(host, FILE) == Ok(()));
+    let mut piece = [7; 1536];
+    assert!(rt; disk.read_at(host, FILE, 0, &mut piece) == Ok(1024));
+    for (at, byte) in [
+        (0, 0),
+        (511, 0),
+        (512, 0x41),
+        (1023, 0x41),
+        (1024, 7),
+        (1535, 7),
+    ] {
+        assert!(rt; piece.get(at) == Some(&byte), "at {at}");
+    }
+    assert!(rt; disk.read_at(host, FILE, 1024, &mut piece) == Ok(0));
+    assert!(rt; fs::read(&rt, FILE_PATH)?.len() == 1024);
+    assert!(rt; disk.fault_count() == 0);
+    fs::remove_dir_all(&rt, ROOT)?;
+    Ok(())
+}
+
+#[test]
+fn a_short_file_is_padded_with_zeros(rt: HostRuntime) -> Result<(), Fail> {
+    let host = HostId::new(1).ok_or("no host")?;
+    fs::write(&rt, "metadata", "x")?;
+    let place = Place {
+        dir: Dir::Root,
+        name: Name::Metadata,
+    };
+    let mut disk = FolderDisk::new(&rt, rt.alloc(), "")?;
+    let mut sector = [7; 512];
+    assert!(rt; disk.length(host, place) == Ok(512));
+    assert!(rt; disk.read_at(host, place, 0, &mut sector) == Ok(512));
+    assert!(rt; sector[0] == b'x');
+    assert!(rt; sector[1..] == [0; 511]);
+    fs::remove_file(&rt, "metadata")?;
+    Ok(())
+}
+
+#[test]
+fn other_things_at_a_path_are_faults(rt: HostRuntime) -> Result<(), Fail> {
+    let host = HostId::new(1).ok_or("no host")?;
+    let _ = fs::remove_dir(&rt, "leases");
+    fs::create_dir(&rt, "leases")?;
+    fs::write(&rt, "22222222-2222-2222-2222-222222222222", "")?;
+    let place = Place {
+        dir: Dir::Root,
+        name: Name::Leases,
+    };
+    let mut disk = FolderDisk::new(&rt, rt.alloc(), ".")?;
+    let mut sector = [7; 512];
+    assert!(rt; disk.create(host, place, 512) == Err(DiskAnswer::Failed));
+    assert!(rt; disk.length(host, place) == Err(DiskAnswer::Failed));
+    assert!(rt; disk.read_at(host, place, 0, &mut sector) == Err(DiskAnswer::Failed));
+    assert!(rt; disk.write_at(host, place, 0, &sector) == Err(DiskAnswer::Failed));
+    assert!(rt; disk.sync(host, place) == Err(DiskAnswer::Failed));
+    assert!(rt; disk.make_dir(host, Dir::Domain(OTHER)) == Err(DiskAnswer::Failed));
+    assert!(rt; disk.fault_count() == 6);
+    fs::remove_dir(&rt, "leases")?;
+    fs::remove_file(&rt, "22222222-2222-2222-2222-222222222222")?;
+    Ok(())
+}
+
+// A stream that fails in its second call, and takes or gives one byte in each other.
+#[derive(Drop)]
+struct Halting {
+    calls: u8,
+}
+
+impl Halting {
+    fn count(&mut self) -> io::Result<usize> {
+        self.calls = self.calls.saturating_add(1);
+        if self.calls == 2 {
+            return Err(io::Error::from(ErrorKind::Other));
+        }
+        Ok(1)
+    }
+}
+
+impl Read for Halting {
+    fn read(&mut self, buf: &mut [u8]) -> io::Result<usize> {
+        let count = self.count()?;
+        Ok(count.min(buf.len()))
+    }
+}
+
+impl Write for Halting {
+    fn write(&mut self, buf: &[u8]) -> io::Result<usize> {
+        let count = self.count()?;
+        Ok(count.min(buf.len()))
+    }
+
+    fn flush(&mut self) -> io::Result<()> {
+        Ok(())
+    }
+}
+
+#[test]
+fn streams_fail_in_mid_stream(rt: HostRuntime) {
+    let mut source = StdSource::new(Halting { calls: 0 });
+    let mut room = [0; 4];
+    assert!(rt; source.read(&mut room) == Ok(1));
+    assert!(rt; source.read(&mut room) == Err(Failed));
+    assert!(rt; source.read(&mut room) == Ok(1));
+    let mut sink = StdSink::new(Halting { calls: 0 });
+    assert!(rt; sink.write(b"abc") == Ok(1));
+    assert!(rt; sink.write(b"bc") == Err(Failed));
+    assert!(rt; sink.write(b"bc") == Ok(1));
+    let mut full: &mut [u8] = &mut [];
+    let mut sink = StdSink::new(&mut full);
+    assert!(rt; sink.write(b"a") == Err(Failed));
+    assert!(rt; sink.write(b"") == Ok(0));
+}
+
+#[test]
+fn words_and_moment_are_read(rt: HostRuntime) -> Result<(), Fail> {
+    let texts = words::name_and_words(&rt)?;
+    let words = words::after_first(rt.alloc(), &texts)?;
+    assert!(rt; words.len() + 1 == texts.len());
+    // 2020-01-01
+    assert!(rt; words::moment(&rt) > 1_577_836_800);
+    Ok(())
+}

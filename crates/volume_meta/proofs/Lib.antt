@@ -1,0 +1,2 @@
+pub mod IdValue
+pub mod Joined

@@ -1,0 +1,5 @@
+pub mod Values
+pub mod Read
+pub mod Gives
+pub mod Shown
+pub mod Text

@@ -1,0 +1,73 @@
+-- What the value of each key of a volume's text means.
+use Rattle.std.specs.Prelude.{ℕ, ◌*◌, ◌%◌, ◌^◌, Bool, true, ◌==◌, ◌&&◌, List, length, nat_le, Option, Some, None, if◌then◌else◌, codes, option_and_then}
+use Rattle.std.specs.Option.{option_map}
+use Rattle.std.specs.Str.{bytes_eq}
+use Rattle.uuid.specs.Text.{parsed_hyphenated}
+use Rattle.sd_names.specs.declared.id.Id.{Id}
+use Rattle.sd_names.specs.declared.kinds.AllocKind.{AllocKind}
+use Rattle.sd_names.specs.declared.kinds.AllocKind.TheVariants.{Sparse, Preallocated}
+use Rattle.sd_names.specs.declared.kinds.Format.{Format}
+use Rattle.sd_names.specs.declared.kinds.Format.TheVariants.{Raw, Cow}
+use Rattle.sd_names.specs.declared.kinds.Legality.{Legality}
+use Rattle.sd_names.specs.declared.kinds.Legality.TheVariants.{Legal, Illegal}
+use Rattle.sd_names.specs.declared.kinds.VolType.{VolType}
+use Rattle.sd_names.specs.declared.kinds.VolType.TheVariants.{Leaf, Internal}
+use Rattle.kv_text.specs.Number.{number_of}
+
+-- CAP: bytes, a multiple of 512, 512 to 1 TiB
+unfoldable pub capacity_of : List ℕ → Option ℕ
+capacity_of value =
+    option_and_then (λ n. if (n % 512 == 0) && nat_le 512 n && nat_le n (2 ^ 40) then Some n else None) (number_of value)
+
+-- SIZE: blocks of 512 bytes, 1 to 2,147,483,648, and the bytes that they are
+unfoldable pub size_of : List ℕ → Option ℕ
+size_of value =
+    option_and_then (λ n. if nat_le 1 n && nat_le n (2 ^ 31) then Some (n * 512) else None) (number_of value)
+
+-- GEN: 0 to 999
+unfoldable pub generation_of : List ℕ → Option ℕ
+generation_of value = option_and_then (λ n. if nat_le n 999 then Some n else None) (number_of value)
+
+-- DESCRIPTION: at most 4,096 bytes
+unfoldable pub description_of : List ℕ → Option (List ℕ)
+description_of value = if nat_le (length value) 4096 then Some value else None
+
+-- DISKTYPE: 1 to 16 bytes
+unfoldable pub disk_type_of : List ℕ → Option (List ℕ)
+disk_type_of value = if nat_le 1 (length value) && nat_le (length value) 16 then Some value else None
+
+-- an identifier: the hyphenated text of RFC 9562, section 4, in either case
+unfoldable pub id_of : List ℕ → Option Id
+id_of value = option_map (λ bytes. record { 0 = bytes }) (parsed_hyphenated value)
+
+-- this identifier and no other
+unfoldable pub this_id : Id → List ℕ → Option Id
+this_id id value =
+    option_and_then (λ found. if bytes_eq found.0 id.0 then Some id else None) (id_of value)
+
+unfoldable pub format_of : List ℕ → Option Format
+format_of value =
+    if bytes_eq value (codes "RAW") then Some Raw else if bytes_eq value (codes "COW") then Some Cow else None
+
+unfoldable pub legality_of : List ℕ → Option Legality
+legality_of value =
+    if bytes_eq value (codes "LEGAL") then Some Legal
+    else if bytes_eq value (codes "ILLEGAL") then Some Illegal
+    else None
+
+unfoldable pub kind_of : List ℕ → Option AllocKind
+kind_of value =
+    if bytes_eq value (codes "SPARSE") then Some Sparse
+    else if bytes_eq value (codes "PREALLOCATED") then Some Preallocated
+    else None
+
+unfoldable pub voltype_of : List ℕ → Option VolType
+voltype_of value =
+    if bytes_eq value (codes "LEAF") then Some Leaf
+    else if bytes_eq value (codes "INTERNAL") then Some Internal
+    else None
+
+-- MERGED: only `TRUE`, and only on an illegal volume
+unfoldable pub merged_of : Legality → List ℕ → Option Bool
+merged_of Legal value = None
+merged_of Illegal value = if bytes_eq value (codes "TRUE") then Some true else None

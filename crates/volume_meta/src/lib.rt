@@ -1,0 +1,15 @@
+//! The text beside a volume: reading it into a record, and writing it, in both versions.
+#![tactic(auto)]
+
+mod keys;
+mod reading;
+mod record;
+mod values;
+mod writing;
+
+pub use reading::read;
+pub use record::{VolumeRecord, next_generation};
+pub use writing::write_into;
+
+#[cfg(test)]
+mod tests;
