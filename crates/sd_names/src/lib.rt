@@ -11,6 +11,7 @@ mod push;
 mod refusal;
 mod turn;
 mod up_set;
+mod value;
 mod verb;
 
 pub use fault::{DomainFault, Key, LayerFault, VolumeFault};
@@ -22,7 +23,7 @@ pub use place::{
     Dir, Name, PathText, Place, dir_order_is_total, name_order_is_total, place_order_is_total,
 };
 pub use push::{push_all, push_id, push_number};
-pub use refusal::Refusal;
+pub use refusal::{REFUSAL_ROOM, Refusal, RefusalText, push_refusal};
 pub use turn::{Absence, Failed, NoMemory, Turn};
 pub use up_set::UpSet;
 pub use verb::{Payload, Verb, VerbName};

@@ -27,8 +27,9 @@ fn id_then(id: &Id, rest: &str) -> PathText
     text
 }
 
-fn push_id(text: &mut PathText, id: &Id)
-    requires room { length text.old.bytes ≤ 60 }
+/// Pushes the 36 bytes of an identifier's text.
+pub fn push_id(text: &mut PathText, id: &Id)
+    requires room { length text.old.bytes + 36 ≤ 160 }
     ensures bytes { text.new.bytes ≡ text.old.bytes ++ id_text id.now.0 }
     ensures len { length text.new.bytes ≡ length text.old.bytes + 36 }
 {

@@ -1,4 +1,7 @@
 // What a step of a longer piece of work hands back, and the errors that say nothing more.
+ghost use Rattle.std.specs.Prelude.{◌≡◌, ◌≤◌, length};
+ghost use Rattle.sd_names.specs.Fault.{absence_name};
+
 use crate::Refusal;
 use thiserror::Error;
 
@@ -34,4 +37,19 @@ pub enum Absence {
     OutOfFile,
     /// The folder has entries.
     NotEmpty,
+}
+
+impl Absence {
+    /// The word in which a refusal prints the answer.
+    pub fn name(&self) -> &'static str
+        ensures name { result.now ≡ absence_name self.now }
+        ensures short { length result.now ≤ 9 }
+    {
+        match self {
+            Absence::NoFile => "NoFile",
+            Absence::Exists => "Exists",
+            Absence::OutOfFile => "OutOfFile",
+            Absence::NotEmpty => "NotEmpty",
+        }
+    }
 }
