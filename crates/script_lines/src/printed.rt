@@ -18,6 +18,7 @@ pub fn push_data(text: &mut Vec<u8>, bytes: &[u8])
     requires whole { length bytes.now % 512 ≡ 0 }
     requires room { length text.old.items + 3 * length bytes.now ≤ vec_capacity text.old }
     ensures items { text.new.items ≡ text.old.items ++ printed bytes.now }
+    ensures len { length text.new.items ≤ length text.old.items + 3 * length bytes.now }
     ensures capacity { vec_capacity text.old ≤ vec_capacity text.new }
 {
     let mut rest = bytes;
