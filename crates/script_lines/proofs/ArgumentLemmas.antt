@@ -1,10 +1,8 @@
 -- One argument before the others.
-use Rattle.std.proofs.Common.{◌≡◌, ℕ, ◌+◌, List, [], ◌∷◌, refl, sym, ◌∙◌, ap, Option, Some, None, Result, Ok, Err}
-use Rattle.std.specs.Option.{option_map}
-use Rattle.sd_names.specs.declared.refusal.Refusal.{Refusal}
+use Rattle.std.proofs.Common.{◌≡◌, ℕ, ◌+◌, List, [], ◌∷◌, refl, sym, ◌∙◌, ap, Some, None, Err}
 use Rattle.sd_names.specs.declared.refusal.Refusal.TheVariants.{BadArgument}
 use Rattle.script_lines.specs.Words.{words}
-use Rattle.script_lines.specs.Argument.{Kind, identifier, set_identifier, number, capacity, description, data_text, layout, Value, first_value, before, continued, onto, values_of}
+use Rattle.script_lines.specs.Argument.{Kind, identifier, set_identifier, number, capacity, description, data_text, layout, Value, first_value, continued, onto, values_of}
 
 none_first : (kind : Kind) → first_value kind [] ≡ None
 none_first identifier = refl

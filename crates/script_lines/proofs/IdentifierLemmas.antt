@@ -1,10 +1,10 @@
 -- The bytes of an identifier's text, as a function of the text.
-use Rattle.std.proofs.Common.{◌≡◌, ℕ, ◌+◌, ◌*◌, ◌/◌, ◌%◌, ◌<◌, ◌==◌, ◌&&◌, Bool, true, false, cond, if◌then◌else◌, List, [], ◌∷◌, zero, suc, length, get_or, slice_index, refl, sym, ◌∙◌, ap, arith, Option, Some, None}
+use Rattle.std.proofs.Common.{◌≡◌, ℕ, ◌+◌, ◌*◌, ◌<◌, ◌==◌, ◌&&◌, Bool, true, false, if◌then◌else◌, List, [], ◌∷◌, zero, suc, length, get_or, refl, sym, ◌∙◌, arith, Option, Some, None}
 use Rattle.std.specs.List.{list_all}
 use Rattle.std.proofs.lemmas.Bool.{and_parts, eqb-true}
 use Rattle.std.proofs.lemmas.Bool.Decides.{nat_tests}
 use Rattle.std.proofs.lemmas.List.Elements.{All-from_get_or}
-use Rattle.uuid.specs.Text.{is_hex_digit, value_of, byte_of_digits, hyphen_place, digits_of, has_hyphens, parsed, parsed_simple, parsed_hyphenated, by_index}
+use Rattle.uuid.specs.Text.{is_hex_digit, value_of, byte_of_digits, digits_of, has_hyphens, parsed, parsed_simple, parsed_hyphenated, by_index}
 use Rattle.uuid.proofs.TextLemmas.{by_index_length, by_index_at}
 use Rattle.sd_names.specs.Id.{IsIdBytes, ReadsAs}
 use Rattle.sd_names.proofs.IdLemmas.{reads_length, parsed_from_reads, reads_from_parsed}

@@ -7,3 +7,4 @@ pub mod ArgumentLemmas
 pub mod ReplyLemmas
 pub mod IdentifierLemmas
 pub mod SaidLemmas
+pub mod EventLemmas

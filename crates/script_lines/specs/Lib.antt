@@ -8,3 +8,4 @@ pub mod Reply
 pub mod VerbWord
 pub mod Verbs
 pub mod Said
+pub mod Event

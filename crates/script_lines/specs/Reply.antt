@@ -1,5 +1,5 @@
 -- The text of a reply.
-use Rattle.std.specs.Prelude.{◌≡◌, ℕ, ◌≤◌, ◌++◌, Bool, true, false, List, [], ◌∷◌, length, map, codes, decimal}
+use Rattle.std.specs.Prelude.{ℕ, ◌≤◌, ◌++◌, Bool, true, false, List, [], ◌∷◌, length, map, codes, decimal}
 use Rattle.sd_names.specs.Id.{id_text}
 use Rattle.sd_names.specs.Refusal.{refusal_text}
 use Rattle.sd_names.specs.declared.id.Id.{Id}

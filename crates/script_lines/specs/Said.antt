@@ -6,7 +6,7 @@ use Rattle.sd_names.specs.declared.refusal.Refusal.{Refusal}
 use Rattle.sd_names.specs.declared.refusal.Refusal.TheVariants.{BadLine, LineTooLong, UnknownVerb, BadArgument}
 use Rattle.sd_names.specs.declared.verb.Verb.{Verb}
 use Rattle.script_lines.specs.Words.{words}
-use Rattle.script_lines.specs.Argument.{Kind, number, Value, id_value, number_value, bytes_value, layout_value, number_in, values_of}
+use Rattle.script_lines.specs.Argument.{number, Value, number_value, number_in, values_of}
 use Rattle.script_lines.specs.VerbWord.{verb_of}
 use Rattle.script_lines.specs.Verbs.{kinds_of, word_of, values_of_verb}
 use Rattle.script_lines.specs.declared.verb_names.VerbWord.{VerbWord}
@@ -90,22 +90,6 @@ spoken line =
     else if nat_lt 200000 (length line) then event (refused LineTooLong)
     else if list_all is_printable line then words_said (words line)
     else event (refused BadLine)
-
--- a verb's event, if its arguments were read
-abbrev pub called : Bool → ℕ → VerbWord → Result (List Value) Refusal → Event
-called true host verb (Ok values) = whole host (record { verb = verb; values = values })
-called false host verb (Ok values) = begin host (record { verb = verb; values = values })
-called is_whole host verb (Err refusal) = refused refusal
-
--- what is said once it is known which verbs are built
-abbrev pub settled : (VerbWord → Bool) → Spoken → Event
-settled is_built (event e) = e
-settled is_built (call is_whole host verb values) =
-    if is_built verb then called is_whole host verb values else refused UnknownVerb
-
--- the event of a line, or why it is refused: a verb that isn't built is unknown
-abbrev pub event_of : (VerbWord → Bool) → List ℕ → Event
-event_of is_built bytes = settled is_built (spoken bytes)
 
 -- the values of a verb that was read
 abbrev pub values_read : Result Verb Refusal → Result (List Value) Refusal

@@ -3,6 +3,7 @@
 
 mod arguments;
 mod data;
+mod event;
 mod line;
 mod numbers;
 mod places;
@@ -16,6 +17,7 @@ mod verbs;
 mod words;
 
 pub use data::{MAX_DATA, decode};
+pub use event::{Line, event_of};
 pub use line::{MAX_LINE, Said, read_line};
 pub use numbers::number;
 pub use printed::push_data;

@@ -5,7 +5,7 @@ ghost use Rattle.script_lines.specs.Words.{words};
 ghost use Rattle.script_lines.specs.Argument.{number, number_in, values_of};
 ghost use Rattle.script_lines.specs.Verbs.{kinds_of};
 ghost use Rattle.script_lines.specs.VerbWord.{verb_of};
-ghost use Rattle.script_lines.specs.Said.{event, refused, has_words, stepped, beginning, calling, told, words_said, is_printable, spoken, values_read, spoken_by, IsNamed};
+ghost use Rattle.script_lines.specs.Said.{event, refused, has_words, stepped, beginning, calling, told, words_said, is_printable, spoken, values_read, spoken_by, IsNamed, NamesItsVerb};
 
 use crate::arguments::Arguments;
 use crate::values::read_number;
@@ -45,7 +45,8 @@ pub enum Said<'a> {
 #[tactic(auto, unfolding(crate::specs::Said::spoken))]
 pub fn read_line<'a>(line: &'a [u8], room: &'a mut [u8]) -> Said<'a>
     requires { length room.old ≡ 65536 }
-    ensures { spoken_by result ≡ spoken line.now }
+    ensures says { spoken_by result ≡ spoken line.now }
+    ensures named { NamesItsVerb result }
 {
     if line.is_empty() {
         return Said::Silent;
@@ -73,7 +74,8 @@ fn are_printable(line: &[u8]) -> bool
 fn read_words<'a>(line: &'a [u8], room: &'a mut [u8]) -> Said<'a>
     requires room { length room.old ≡ 65536 }
     requires short { length line.now ≤ MAX_LINE }
-    ensures { spoken_by result ≡ words_said (words line.now) }
+    ensures says { spoken_by result ≡ words_said (words line.now) }
+    ensures named { NamesItsVerb result }
 {
     match split_line(line) {
         Some((host, word, rest)) => read_told(host, word, rest, room),
@@ -110,7 +112,8 @@ fn read_host(word: &[u8]) -> Option<HostId>
 fn read_told<'a>(host: HostId, word: &[u8], rest: &'a [u8], room: &'a mut [u8]) -> Said<'a>
     requires room { length room.old ≡ 65536 }
     requires short { length rest.now ≤ MAX_LINE }
-    ensures { spoken_by result ≡ told host word.now (words rest.now) }
+    ensures says { spoken_by result ≡ told host word.now (words rest.now) }
+    ensures named { NamesItsVerb result }
 {
     if word == b"boot".as_slice() {
         return if has_words(rest) {
@@ -155,7 +158,8 @@ fn has_words(text: &[u8]) -> bool
 /// `H step N`
 fn read_step<'a>(host: HostId, rest: &'a [u8]) -> Said<'a>
     requires { length rest.now ≤ MAX_LINE }
-    ensures { spoken_by result ≡ event (stepped host (values_of (number 1 1000000 ∷ []) 1 (words rest.now))) }
+    ensures says { spoken_by result ≡ event (stepped host (values_of (number 1 1000000 ∷ []) 1 (words rest.now))) }
+    ensures named { NamesItsVerb result }
 {
     let mut args = Arguments { rest, place: 1 };
     match args.number(1, 1_000_000) {
@@ -174,7 +178,8 @@ fn read_step<'a>(host: HostId, rest: &'a [u8]) -> Said<'a>
 fn read_begin<'a>(host: HostId, rest: &'a [u8], room: &'a mut [u8]) -> Said<'a>
     requires room { length room.old ≡ 65536 }
     requires short { length rest.now ≤ MAX_LINE }
-    ensures { spoken_by result ≡ beginning host (words rest.now) }
+    ensures says { spoken_by result ≡ beginning host (words rest.now) }
+    ensures named { NamesItsVerb result }
 {
     match take_word(rest) {
         Some((word, args)) => read_call(false, host, word, args, room),
@@ -192,7 +197,8 @@ fn read_call<'a>(
 ) -> Said<'a>
     requires room { length room.old ≡ 65536 }
     requires short { length rest.now ≤ MAX_LINE }
-    ensures { spoken_by result ≡ calling is_whole host (verb_of word.now) (words rest.now) }
+    ensures says { spoken_by result ≡ calling is_whole host (verb_of word.now) (words rest.now) }
+    ensures named { NamesItsVerb result }
 {
     match verb_word(word) {
         Some(name) => Said::Call {

@@ -1,4 +1,4 @@
-use Rattle.std.proofs.Common.{refl, sym, ◌∙◌, []}
+use Rattle.std.proofs.Common.{sym, ◌∙◌, []}
 use Rattle.script_lines.specs.Words.{words}
 use Rattle.script_lines.specs.Verbs.{kinds_of, values_of_verb}
 use Rattle.script_lines.proofs.SaidLemmas.{all_read, more_than_all, not_all}

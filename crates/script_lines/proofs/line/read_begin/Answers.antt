@@ -1,8 +1,8 @@
 use Rattle.std.proofs.Common.{refl}
 use Rattle.script_lines.proofs.line.read_begin.Goals as goal
 
-pub returns-in-Some : goal.returns-in-Some
-returns-in-Some c = rw c.in-Some.ensures.word c.read_call.ensures
+pub returns-in-Some-clause-says : goal.returns-in-Some-clause-says
+returns-in-Some-clause-says c = rw c.in-Some.ensures.word c.read_call.ensures.says
 
-pub returns-in-None : goal.returns-in-None
-returns-in-None c = rw c.in-None.ensures.word refl
+pub returns-in-None-clause-says : goal.returns-in-None-clause-says
+returns-in-None-clause-says c = rw c.in-None.ensures.word refl

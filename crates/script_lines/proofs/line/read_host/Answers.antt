@@ -1,4 +1,4 @@
-use Rattle.std.proofs.Common.{sym, ap, Some, ◌∙◌}
+use Rattle.std.proofs.Common.{ap, Some, ◌∙◌}
 use Rattle.std.proofs.lemmas.Bool.{false≢true}
 use Rattle.script_lines.proofs.line.read_host.Goals as goal
 

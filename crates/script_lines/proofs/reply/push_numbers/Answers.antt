@@ -1,4 +1,3 @@
-use Rattle.std.proofs.Common.{◌≡◌, ◌++◌, refl}
 use Rattle.std.proofs.lemmas.List.{append_assoc, append-nil}
 use Rattle.script_lines.proofs.reply.push_numbers.Goals as goal
 

@@ -1,4 +1,4 @@
-use Rattle.std.proofs.Common.{◌≡◌, ◌<◌, ◌≤◌, length, arith}
+use Rattle.std.proofs.Common.{arith}
 use Rattle.script_lines.specs.Reply.{task_word}
 use Rattle.script_lines.proofs.ReplyLemmas.{pushed_more}
 use Rattle.script_lines.proofs.reply.push_tasks.Goals as goal

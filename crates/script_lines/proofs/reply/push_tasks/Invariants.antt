@@ -1,4 +1,4 @@
-use Rattle.std.proofs.Common.{◌≡◌, ◌+◌, ◌-◌, ◌*◌, ◌≤◌, ◌++◌, length, take, map, vec_capacity}
+use Rattle.std.proofs.Common.{◌≡◌, ◌+◌, ◌*◌, ◌≤◌, ◌++◌, length, take, map, vec_capacity}
 use Rattle.script_lines.specs.Reply.{spaced, task_word}
 use Rattle.script_lines.proofs.reply.push_tasks.Given as goal
 

@@ -1,4 +1,3 @@
-use Rattle.std.proofs.Common.{sym, ◌∙◌, None}
 use Rattle.script_lines.proofs.IdentifierLemmas.{id_found, id_missing}
 use Rattle.script_lines.proofs.values.read_id.Goals as goal
 

@@ -1,4 +1,4 @@
-use Rattle.std.proofs.Common.{◌≡◌, ◌∷◌, sym, ◌∙◌, ap, Some, None, take}
+use Rattle.std.proofs.Common.{sym, ◌∙◌, ap, Some, take}
 use Rattle.std.specs.Option.{option_map}
 use Rattle.script_lines.specs.Words.{words}
 use Rattle.script_lines.specs.Argument.{data_text, bytes_value, before, first_value}

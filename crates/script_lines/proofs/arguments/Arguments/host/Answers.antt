@@ -1,7 +1,5 @@
-use Rattle.std.proofs.Common.{◌≡◌, refl, ap}
+use Rattle.std.proofs.Common.{refl}
 use Rattle.std.proofs.lemmas.Bool.{false≢true}
-use Rattle.script_lines.specs.Argument.{number_value, onto, values_of}
-use Rattle.script_lines.specs.Words.{words}
 use Rattle.script_lines.proofs.arguments.Arguments.host.Goals as goal
 
 pub returns-in_err-number : goal.returns-in_err-number

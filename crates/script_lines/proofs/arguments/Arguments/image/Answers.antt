@@ -1,4 +1,4 @@
-use Rattle.std.proofs.Common.{◌≡◌, refl}
+use Rattle.std.proofs.Common.{refl}
 use Rattle.script_lines.proofs.arguments.Arguments.image.Goals as goal
 
 pub returns-in_err-sd : goal.returns-in_err-sd

@@ -1,7 +1,6 @@
-use Rattle.std.proofs.Common.{◌≡◌, ◌∷◌, sym, ◌∙◌, ap, Some, None, [], refl}
-use Rattle.std.specs.Option.{option_map}
+use Rattle.std.proofs.Common.{◌∷◌, sym, ◌∙◌, ap, Some}
 use Rattle.script_lines.specs.Words.{words}
-use Rattle.script_lines.specs.Argument.{layout, layout_value, layout_of, before, first_value}
+use Rattle.script_lines.specs.Argument.{layout, layout_value, before, first_value}
 use Rattle.script_lines.proofs.ArgumentLemmas.{missing, malformed, found}
 use Rattle.script_lines.proofs.arguments.Arguments.layout.Goals as goal
 
