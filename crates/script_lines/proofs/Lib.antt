@@ -3,3 +3,8 @@ pub mod NumberLemmas
 pub mod PlacesLemmas
 pub mod PrintedLemmas
 pub mod WordsLemmas
+pub mod ArgumentLemmas
+pub mod ReplyLemmas
+pub mod IdentifierLemmas
+pub mod SaidLemmas
+pub mod EventLemmas

@@ -2,3 +2,10 @@ pub mod Words
 pub mod Number
 pub mod Data
 pub mod Printed
+pub mod Argument
+pub mod Reads
+pub mod Reply
+pub mod VerbWord
+pub mod Verbs
+pub mod Said
+pub mod Event

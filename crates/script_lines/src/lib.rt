@@ -1,15 +1,26 @@
 //! The lines of a script, and the replies to them: pure functions on bytes that take no memory.
 #![tactic(auto)]
 
+mod arguments;
 mod data;
+mod event;
+mod line;
 mod numbers;
 mod places;
 mod printed;
+mod reply;
 #[cfg(test)]
 mod tests;
+mod values;
+mod verb_names;
+mod verbs;
 mod words;
 
 pub use data::{MAX_DATA, decode};
+pub use event::{Line, event_of};
+pub use line::{MAX_LINE, Said, read_line};
 pub use numbers::number;
 pub use printed::push_data;
+pub use reply::{REPLY_ROOM, Reply, push_reply};
+pub use verb_names::{VerbWord, verb_word};
 pub use words::take_word;

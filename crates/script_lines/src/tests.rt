@@ -1,5 +1,6 @@
 // Tables of what the parts of a line say, and of printed data.
-use crate::{MAX_DATA, decode, number, push_data, take_word};
+use crate::{Line, MAX_DATA, VerbWord, decode, event_of, number, push_data, take_word};
+use sd_names::Refusal;
 use std::alloc::{AllocError, Global};
 use std::test::Fail;
 
@@ -134,5 +135,145 @@ fn printed_data(rt: HostRuntime) -> Result<(), Fail> {
     assert_eq!(rt; mixed.len(), 1038);
     assert_eq!(rt; &mixed[..9], b"512*11+11".as_slice());
     assert_eq!(rt; &mixed[1027..], b"11ab+512*11".as_slice());
+    Ok(())
+}
+
+const S: &[u8] = b"00000000-0000-4000-8000-000000000002";
+
+const I: &[u8] = b"00000000-0000-4000-8000-00000000000A";
+
+const ZEROS: &[u8] = b"00000000-0000-0000-0000-000000000000";
+
+/// A line in which `$`, `@` and `~` stand for whole identifiers.
+fn spelled(alloc: Global, pattern: &[u8]) -> Result<Vec<u8>, AllocError> {
+    let mut line = Vec::new(alloc);
+    for byte in pattern {
+        match byte {
+            b'$' => line.extend_from_slice(S)?,
+            b'@' => line.extend_from_slice(I)?,
+            b'~' => line.extend_from_slice(ZEROS)?,
+            _ => line.push(*byte)?,
+        }
+    }
+    Ok(line)
+}
+
+/// The number of a line's refusal with the place of the argument at fault; 0 for a line that isn't refused, 1 for
+/// one that says nothing. All verbs are built but `copy`.
+fn refused(line: &[u8], room: &mut [u8; 65536]) -> (u16, u64) {
+    match event_of(line, |verb| !matches!(&verb, VerbWord::Copy), room) {
+        Line::Silent => (1, 0),
+        Line::Refused(Refusal::BadArgument(place)) => (13, place),
+        Line::Refused(refusal) => (refusal.number(), 0),
+        _ => (0, 0),
+    }
+}
+
+// `$` is a domain or a task, `@` an image or a volume, `~` the identifier of zeros.
+#[test]
+fn lines(rt: HostRuntime) -> Result<(), Fail> {
+    let cases: [(&[u8], u16, u64); 96] = [
+        (b"", 1, 0),
+        (b"# remark", 1, 0),
+        (b" ", 10, 0),
+        (b" # remark", 10, 0),
+        (b"0 boot", 10, 0),
+        (b"251 boot", 10, 0),
+        (b"1", 10, 0),
+        (b"x boot", 10, 0),
+        (b"1\tboot", 10, 0),
+        (b"250 boot", 0, 0),
+        (b"  001   boot ", 0, 0),
+        (b"1 boot now", 13, 1),
+        (b"1 down", 0, 0),
+        (b"1 down 1", 13, 1),
+        (b"1 end", 0, 0),
+        (b"1 end 1", 13, 1),
+        (b"1 step 1", 0, 0),
+        (b"1 step 1000000", 0, 0),
+        (b"1 step 1000001", 13, 1),
+        (b"1 step 0", 13, 1),
+        (b"1 step", 13, 1),
+        (b"1 step 1 1", 13, 2),
+        (b"1 begin", 12, 0),
+        (b"1 begin boot", 12, 0),
+        (b"1 begin tasks", 0, 0),
+        (b"1 begin open $", 13, 2),
+        (b"1 frobnicate", 12, 0),
+        (b"1 BOOT", 12, 0),
+        (b"1 copy", 12, 0),
+        (b"1 make-pool $ $ 5 -", 0, 0),
+        (b"1 make-pool ~ ~ 4 disk", 0, 0),
+        (b"1 make-pool $ $ 6 -", 13, 3),
+        (b"1 make-pool $ $ 5", 13, 4),
+        (b"1 make-pool $ x 6 -", 13, 2),
+        (b"1 spm-start $ 0 0", 0, 0),
+        (b"1 spm-start $ 250 18446744073709551615", 0, 0),
+        (b"1 spm-start $ 251 0", 13, 2),
+        (b"1 spm-start $ 0 18446744073709551616", 13, 3),
+        (b"1 spm-stop", 0, 0),
+        (b"1 spm-stop $", 13, 1),
+        (b"1 add-domain $ $ 5 -", 0, 0),
+        (b"1 add-domain $ $ 3 -", 13, 3),
+        (b"1 create $ $ @ @ RAW SPARSE 512 -", 0, 0),
+        (b"1 create $ $ @ @ RAW PREALLOCATED 1099511627776 d", 0, 0),
+        (b"1 create $ $ @ @ COW SPARSE 512 -", 0, 0),
+        (b"1 create $ $ @ @ COW PREALLOCATED 512 -", 13, 5),
+        (b"1 create $ $ @ @ RAW", 13, 5),
+        (b"1 create $ $ @ @ raw SPARSE 512 -", 13, 5),
+        (b"1 create $ $ @ @ RAW SPARSE 513 -", 13, 6),
+        (b"1 create $ $ @ @ RAW SPARSE 0 -", 13, 6),
+        (b"1 create $ $ @ @ RAW SPARSE 1099511628288 -", 13, 6),
+        (b"1 create $ $ ~ @ RAW SPARSE 512 -", 13, 3),
+        (b"1 create $ $ @ @ RAW SPARSE 512 - -", 13, 8),
+        (b"1 snapshot $ $ @ @ @ 0 -", 0, 0),
+        (b"1 snapshot $ $ @ @ ~ 0 -", 13, 5),
+        (b"1 snapshot $ $ @ @ @ 100 -", 13, 6),
+        (b"1 delete-volume $ $ @ @", 0, 0),
+        (b"1 delete-volume $ $ @", 13, 4),
+        (b"1 delete-image $ $ @", 0, 0),
+        (b"1 delete-image $ $", 13, 3),
+        (b"1 extend $ $ @ @ 1024", 0, 0),
+        (b"1 extend $ $ @ @ 0", 13, 5),
+        (b"1 describe $ $ @ @ text", 0, 0),
+        (b"1 describe $ $ @ @", 13, 5),
+        (b"1 open $ @", 0, 0),
+        (b"1 open $", 13, 2),
+        (b"1 open $ @ @", 13, 3),
+        (b"1 open $ ~", 13, 2),
+        (b"1 close $ @", 0, 0),
+        (b"1 close @", 13, 2),
+        (b"1 read $ @ 0 512", 0, 0),
+        (b"1 read $ @ 0 0", 13, 4),
+        (b"1 read $ @ 0 65537", 13, 4),
+        (b"1 read $ @ - 512", 13, 3),
+        (b"1 write $ @ 0 512*41", 0, 0),
+        (b"1 write $ @ 0 65536*41+00", 13, 4),
+        (b"1 write $ @ 0", 13, 4),
+        (b"1 prepare-merge $ @ @ @", 0, 0),
+        (b"1 prepare-merge $ @ @", 13, 4),
+        (b"1 merge $ @ @ @ 999", 0, 0),
+        (b"1 merge $ @ @ @ 1000", 13, 5),
+        (b"1 finalize-merge $ @ @ @", 0, 0),
+        (b"1 live-start $ @ @ @", 0, 0),
+        (b"1 live-fill $ @ 4294967295", 0, 0),
+        (b"1 live-fill $ @ 0", 13, 3),
+        (b"1 live-sync $ @", 0, 0),
+        (b"1 live-pivot $ @", 0, 0),
+        (b"1 box-post $ @ @ 1376256 4294967295", 0, 0),
+        (b"1 box-post $ @ @ 1376256 4294967296", 13, 5),
+        (b"1 box-serve $ 250", 0, 0),
+        (b"1 box-serve $ 0", 13, 2),
+        (b"1 box-collect $", 0, 0),
+        (b"1 tasks", 0, 0),
+        (b"1 clear-task $", 0, 0),
+        (b"1 recover", 0, 0),
+        (b"1 recover 1", 13, 1),
+    ];
+    let mut room = [0; 65536];
+    for (pattern, number, place) in cases {
+        let line = spelled(rt.alloc(), pattern)?;
+        assert_eq!(rt; refused(&line, &mut room), (number, place));
+    }
     Ok(())
 }

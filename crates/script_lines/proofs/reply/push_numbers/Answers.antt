@@ -1,0 +1,5 @@
+use Rattle.std.proofs.lemmas.List.{append_assoc, append-nil}
+use Rattle.script_lines.proofs.reply.push_numbers.Goals as goal
+
+pub returns-clause-items : goal.returns-clause-items
+returns-clause-items c = rw (c.push_number_word-2.ensures.items, c.push_number_word.ensures.items) (simp (append_assoc, append-nil))

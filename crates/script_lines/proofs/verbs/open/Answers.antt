@@ -1,0 +1,8 @@
+use Rattle.std.proofs.Common.{refl}
+use Rattle.script_lines.proofs.verbs.open.Goals as goal
+
+pub returns-in_err-sd : goal.returns-in_err-sd
+returns-in_err-sd c = record { reads = λ more. rw (c.from_residual.ensures, c.in_err-sd.ensures.reads) refl; named = rw c.from_residual.ensures tt }
+
+pub returns : goal.returns
+returns c = record { reads = λ more. rw (c.in_ok-sd.ensures.reads) refl; named = refl }
