@@ -1,8 +1,8 @@
 -- A command that writes a run.
-use Rattle.std.proofs.Common.{◌≡◌, ℕ, ◌≤◌, List, [], ◌∷◌, Option, Some, None, length, take, refl, sym, ap, ◌∙◌, subst, length-take, arith}
+use Rattle.std.proofs.Common.{◌≡◌, ℕ, ◌≤◌, List, [], ◌∷◌, Option, length, take, refl, length-take, arith}
 use Rattle.sd_names.specs.declared.id.Id.{Id}
 use Rattle.pool_session.specs.Words.{at_end}
-use Rattle.pool_session.specs.Command.{Asked, Asks, write_of}
+use Rattle.pool_session.specs.Command.{Asked, Asks}
 use Rattle.pool_session.specs.declared.command.Command.{Command}
 use Rattle.pool_session.specs.declared.command.Command.TheVariants.{Write}
 

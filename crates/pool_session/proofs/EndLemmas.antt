@@ -1,12 +1,12 @@
 -- Pieces of the input put together, and how a session ends.
-use Rattle.std.proofs.Common.{◌≡◌, ◌≢◌, ℕ, zero, suc, ◌+◌, ◌<◌, ◌≤◌, min, Bool, true, false, List, [], ◌∷◌, ◌++◌, All, length, take, drop, length-take, refl, sym, ap, ◌∙◌, subst, arith, append_assoc, length-append}
+use Rattle.std.proofs.Common.{◌≡◌, ℕ, suc, ◌+◌, ◌≤◌, List, [], ◌∷◌, ◌++◌, length, take, drop, length-take, refl, sym, ap, ◌∙◌, subst, arith, append_assoc, length-append}
 use Rattle.std.specs.List.{flat_map}
 use Rattle.std.proofs.lemmas.List.{append-nil}
 use Rattle.std.proofs.lemmas.List.Elements.{All-append}
 use Rattle.std.proofs.lemmas.Grind.{flat_map-append}
-use Rattle.pool_session.specs.Lines.{ended, HasNoLf, Cut, all_lines}
+use Rattle.pool_session.specs.Lines.{ended, HasNoLf, all_lines}
 use Rattle.pool_session.specs.Machine.{State}
-use Rattle.pool_session.specs.Run.{RunsLine, Runs, Fed, IsBroken, IsCut, EndsLine, RanAll, RanEnded, Finishes, Ends, most_input}
+use Rattle.pool_session.specs.Run.{RunsLine, Runs, Fed, IsBroken, IsCut, RanAll, RanEnded, Finishes, Ends, most_input}
 use Rattle.pool_session.specs.declared.status.Status.{Status}
 use Rattle.pool_session.specs.declared.status.Status.TheVariants.{Done, Refused, Words, ReadFault, WriteFault, TooLong, Memory}
 use Rattle.std.proofs.lemmas.List.{take-append-drop, take-append-le}
@@ -48,14 +48,14 @@ module _ (s t u : State) (a b skipped before mid after : List ℕ) (n : ℕ) (la
     mid = broken.mid;
     now = broken.now;
     whole = sym (append_assoc a b skipped)
-      ∙ ap (λ (xs : List ℕ). xs ++ skipped) (joined first.lines broken.lines a b last (broken.last ++ rest) first.whole broken.whole)
-      ∙ append_assoc (flat_map ended (first.lines ++ broken.lines)) (broken.last ++ rest) skipped
-      ∙ ap (λ (xs : List ℕ). flat_map ended (first.lines ++ broken.lines) ++ xs) (append_assoc broken.last rest skipped);
+        ∙ ap (λ (xs : List ℕ). xs ++ skipped) (joined first.lines broken.lines a b last (broken.last ++ rest) first.whole broken.whole)
+        ∙ append_assoc (flat_map ended (first.lines ++ broken.lines)) (broken.last ++ rest) skipped
+        ∙ ap (λ (xs : List ℕ). flat_map ended (first.lines ++ broken.lines) ++ xs) (append_assoc broken.last rest skipped);
     each = All-append HasNoLf first.lines broken.lines first.each broken.each;
     no_lf = broken.no_lf;
     runs = runs_append 0 s t broken.mid first.lines broken.lines first.text broken.text first.runs (subst (λ k. Runs k t broken.lines broken.text broken.mid) first.count broken.runs);
     runs_last = (let count : n + length broken.lines + 1 ≡ 0 + length (first.lines ++ broken.lines) + 1 = omega (arith, first.count, length-append first.lines broken.lines) in
-      subst (λ k. RunsLine k broken.mid broken.last broken.now u) count broken.runs_last);
+        subst (λ k. RunsLine k broken.mid broken.last broken.now u) count broken.runs_last);
     cut = subst (λ (xs : List ℕ). IsCut xs broken.now after) (ap (λ (xs : List ℕ). xs ++ broken.text) first.given ∙ append_assoc before first.text broken.text) broken.cut;
   }
 
@@ -137,7 +137,7 @@ one_of (x ∷ xs) e = (x, ap (λ (ys : List ℕ). x ∷ ys) (none_of xs (let is 
 piece_splits : (piece : List ℕ) (count kept : ℕ) → kept ≤ count → count ≤ length piece → take count piece ≡ take kept piece ++ drop kept (take count piece)
 piece_splits piece count kept some fits =
     let front : take kept piece ≡ take kept (take count piece) =
-        ap (take kept) (sym (take-append-drop count piece)) ∙ take-append-le kept (take count piece) (drop count piece) (omega (arith, length-take count piece)) in
+    ap (take kept) (sym (take-append-drop count piece)) ∙ take-append-le kept (take count piece) (drop count piece) (omega (arith, length-take count piece)) in
     sym (ap (λ (xs : List ℕ). xs ++ drop kept (take count piece)) front ∙ take-append-drop kept (take count piece))
 
 -- the input behind one more piece
@@ -145,11 +145,12 @@ pub input_splits : (input bytes extra more more' piece : List ℕ) (count kept :
     → input ≡ bytes ++ (take kept piece ++ (drop kept (take count piece) ++ more'))
 input_splits input bytes extra more more' piece count kept is none moved some fits =
     is ∙ ap (λ (xs : List ℕ). bytes ++ (xs ++ more)) none ∙ ap (λ (xs : List ℕ). bytes ++ xs) (moved
-      ∙ ap (λ (xs : List ℕ). xs ++ more') (piece_splits piece count kept some fits) ∙ append_assoc (take kept piece) (drop kept (take count piece)) more')
+    ∙ ap (λ (xs : List ℕ). xs ++ more') (piece_splits piece count kept some fits) ∙ append_assoc (take kept piece) (drop kept (take count piece)) more')
 
 -- at the end of the input nothing is left, and all of it was taken
 pub end_of_input : (input bytes extra more after piece : List ℕ) (count : ℕ) → input ≡ bytes ++ (extra ++ more) → length extra ≡ 0 → more ≡ [] → more ≡ take count piece ++ after
     → (bytes ≡ input) × (after ≡ [])
-end_of_input input bytes extra more after piece count is no_extra none moved =
-    (sym (is ∙ ap (λ (xs : List ℕ). bytes ++ (xs ++ more)) (none_of extra no_extra) ∙ ap (λ (xs : List ℕ). bytes ++ xs) none ∙ append-nil bytes),
-     none_of after (let lengths = ap length moved in let zero_more = ap length none in omega (arith, lengths, zero_more, length-append (take count piece) after)))
+end_of_input input bytes extra more after piece count is no_extra none moved = (
+  sym (is ∙ ap (λ (xs : List ℕ). bytes ++ (xs ++ more)) (none_of extra no_extra) ∙ ap (λ (xs : List ℕ). bytes ++ xs) none ∙ append-nil bytes),
+  none_of after (let lengths = ap length moved in let zero_more = ap length none in omega (arith, lengths, zero_more, length-append (take count piece) after)),
+)

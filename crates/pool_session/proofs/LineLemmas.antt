@@ -1,8 +1,7 @@
 -- What is kept of a line, as more of it comes.
-use Rattle.std.proofs.Common.{◌≡◌, ℕ, zero, suc, ◌+◌, ◌-◌, ◌<◌, ◌≤◌, nat_eq, nat_lt, nat_le, Bool, true, false, List, [], ◌∷◌, ◌++◌, length, take, Option, Some, None, slice_get, if◌then◌else◌, refl, sym, ap, ◌∙◌, subst, arith, length-take, length-append}
+use Rattle.std.proofs.Common.{◌≡◌, ℕ, zero, suc, ◌-◌, ◌<◌, ◌≤◌, nat_eq, nat_lt, nat_le, Bool, true, false, List, [], ◌∷◌, ◌++◌, length, take, Option, Some, None, slice_get, if◌then◌else◌, refl, sym, ap, ◌∙◌, subst, arith, length-take, length-append}
 use Rattle.std.proofs.lemmas.Bool.Decides.{nat_tests}
 use Rattle.std.proofs.Math.Decide.{dec_lt}
-use Rattle.std.proofs.lemmas.List.{append-nil}
 use Rattle.script_lines.specs.Words.{words}
 use Rattle.pool_session.specs.Command.{asked_of, asked_by, is_silent, most_in_line, Asks}
 use Rattle.pool_session.specs.Line.{IsFront}
@@ -47,8 +46,8 @@ module _ (n : ℕ) (bytes : List ℕ) (long : Bool) (line piece : List ℕ) (fro
   pub push_short : length piece ≤ n - length bytes → IsFront n (bytes ++ piece) long (line ++ piece)
   push_short fits = record {
     front = ap (λ (xs : List ℕ). xs ++ piece) front.front
-      ∙ ap (λ (ys : List ℕ). take n line ++ ys) (sym (take_whole (n - length line) piece (omega (arith, left_is))))
-      ∙ sym (take_append n line piece);
+        ∙ ap (λ (ys : List ℕ). take n line ++ ys) (sym (take_whole (n - length line) piece (omega (arith, left_is))))
+        ∙ sym (take_append n line piece);
     more = front.more ∙ elim (dec_lt n (length line)) [
       | yes above ↦ both_true n (length line) (length (line ++ piece)) above (omega (arith, length-append line piece))
       | no below ↦ both_false n (length line) (length (line ++ piece)) (omega arith) (omega (arith, left_is, length-append line piece))
@@ -59,8 +58,8 @@ module _ (n : ℕ) (bytes : List ℕ) (long : Bool) (line piece : List ℕ) (fro
   pub push_long : n - length bytes < length piece → IsFront n (bytes ++ take (n - length bytes) piece) true (line ++ piece)
   push_long over = record {
     front = ap (λ (xs : List ℕ). xs ++ take (n - length bytes) piece) front.front
-      ∙ ap (λ m. take n line ++ take m piece) left_is
-      ∙ sym (take_append n line piece);
+        ∙ ap (λ m. take n line ++ take m piece) left_is
+        ∙ sym (take_append n line piece);
     more = passes n (length (line ++ piece)) (omega (arith, left_is, length-append line piece));
   }
 

@@ -1,5 +1,5 @@
 -- What the machine does, by what is due.
-use Rattle.std.proofs.Common.{◌≡◌, ℕ, ◌/◌, ◌≤◌, ◌⊎◌, ◌++◌, Bool, true, false, List, [], length, take, Option, Some, None, Result, Ok, Err, MatchOption, MatchResult, unwrap_or, if◌then◌else◌, ◌&&◌, refl, sym, ap, ◌∙◌, subst, inl, inr}
+use Rattle.std.proofs.Common.{◌≡◌, ℕ, ◌/◌, ◌≤◌, ◌++◌, Bool, true, false, List, [], length, take, Option, Some, None, Result, MatchResult, unwrap_or, if◌then◌else◌, ◌&&◌, refl, sym, ap, ◌∙◌, subst, inl, inr}
 use Rattle.std.proofs.Math.Seq.{take-append_seam}
 use Rattle.std.specs.Option.{option_map}
 use Rattle.std.specs.Prelude.{option_and_then}
@@ -32,7 +32,7 @@ module _ (stage : Stage) (flat : ℕ → List ℕ) (faults : ℕ) (refusals : Bo
   -- a write that is done
   pub write_done : (bytes : List ℕ) → o ≡ part_refusal at (length bytes) image.capacity
       → Acts (state_at stage flat faults refusals) (act.Write image at (length bytes)) bytes plain
-          (state_after (state_at stage flat faults refusals) (Opened image) (laid (at / 512) bytes flat) faults' plain)
+      (state_after (state_at stage flat faults refusals) (Opened image) (laid (at / 512) bytes flat) faults' plain)
   write_done bytes is = on_part o (part_refusal at (length bytes) image.capacity) is not (state_at stage flat faults refusals) image plain
       (state_after (state_at stage flat faults refusals) (Opened image) (laid (at / 512) bytes flat) faults' plain)
       (WritesImage (state_at stage flat faults refusals) image at bytes plain (state_after (state_at stage flat faults refusals) (Opened image) (laid (at / 512) bytes flat) faults' plain))
@@ -42,7 +42,7 @@ module _ (stage : Stage) (flat : ℕ → List ℕ) (faults : ℕ) (refusals : Bo
   pub write_cut : (bytes : List ℕ) (refusal : Refusal) (mixed : ℕ → List ℕ) → o ≡ part_refusal at (length bytes) image.capacity
       → Rose faults faults' → refusal ≡ DiskFault faults' → Mixed (at / 512) bytes flat mixed
       → Acts (state_at stage flat faults refusals) (act.Write image at (length bytes)) bytes (refused refusal)
-          (state_after (state_at stage flat faults refusals) (Stopped (Some image)) mixed faults' (refused refusal))
+      (state_after (state_at stage flat faults refusals) (Stopped (Some image)) mixed faults' (refused refusal))
   write_cut bytes refusal mixed is rose told mixes =
       on_part o (part_refusal at (length bytes) image.capacity) is not (state_at stage flat faults refusals) image (refused refusal)
       (state_after (state_at stage flat faults refusals) (Stopped (Some image)) mixed faults' (refused refusal))
@@ -52,7 +52,7 @@ module _ (stage : Stage) (flat : ℕ → List ℕ) (faults : ℕ) (refusals : Bo
   -- a read that is done
   pub read_done : (count : ℕ) (bytes : List ℕ) → o ≡ part_refusal at count image.capacity → length bytes ≡ count → ReadsFlat (at / 512) flat bytes
       → Acts (state_at stage flat faults refusals) (act.Read image at count) [] (done (printed bytes))
-          (state_after (state_at stage flat faults refusals) (Opened image) flat faults' (done (printed bytes)))
+      (state_after (state_at stage flat faults refusals) (Opened image) flat faults' (done (printed bytes)))
   read_done count bytes is long reads = on_part o (part_refusal at count image.capacity) is not (state_at stage flat faults refusals) image (done (printed bytes))
       (state_after (state_at stage flat faults refusals) (Opened image) flat faults' (done (printed bytes)))
       (ReadsImage (state_at stage flat faults refusals) image at count (done (printed bytes)) (state_after (state_at stage flat faults refusals) (Opened image) flat faults' (done (printed bytes))))
@@ -61,7 +61,7 @@ module _ (stage : Stage) (flat : ℕ → List ℕ) (faults : ℕ) (refusals : Bo
   -- a read that has failed
   pub read_cut : (count : ℕ) (refusal : Refusal) → o ≡ part_refusal at count image.capacity → Rose faults faults' → refusal ≡ DiskFault faults'
       → Acts (state_at stage flat faults refusals) (act.Read image at count) [] (refused refusal)
-          (state_after (state_at stage flat faults refusals) (Stopped (Some image)) flat faults' (refused refusal))
+      (state_after (state_at stage flat faults refusals) (Stopped (Some image)) flat faults' (refused refusal))
   read_cut count refusal is rose told = on_part o (part_refusal at count image.capacity) is not (state_at stage flat faults refusals) image (refused refusal)
       (state_after (state_at stage flat faults refusals) (Stopped (Some image)) flat faults' (refused refusal))
       (ReadsImage (state_at stage flat faults refusals) image at count (refused refusal) (state_after (state_at stage flat faults refusals) (Stopped (Some image)) flat faults' (refused refusal)))

@@ -1,5 +1,5 @@
 -- Runs over lines, put together.
-use Rattle.std.proofs.Common.{◌≡◌, ◌≢◌, ℕ, zero, suc, ◌+◌, ◌<◌, ◌≤◌, Bool, true, false, List, [], ◌∷◌, ◌++◌, ◌||◌, take, All, length, Option, Some, None, MatchBool, refl, sym, ap, ◌∙◌, subst, arith, append_assoc, length-append}
+use Rattle.std.proofs.Common.{◌≡◌, ◌≢◌, ℕ, suc, ◌+◌, Bool, true, false, List, [], ◌∷◌, ◌++◌, ◌||◌, take, length, Option, Some, None, refl, sym, ap, ◌∙◌, subst, arith, append_assoc, length-append}
 use Rattle.std.specs.List.{flat_map}
 use Rattle.std.proofs.lemmas.List.{append-nil}
 use Rattle.std.proofs.lemmas.List.Elements.{All-append, All-nil, All-cons}
@@ -9,9 +9,9 @@ use Rattle.pool_session.specs.Answer.{Answer, is_refusal, reply_text}
 use Rattle.pool_session.specs.Command.{Asked, Asks, asked_of, count_of, is_silent}
 use Rattle.pool_session.specs.declared.command.Command.{Command}
 use Rattle.pool_session.specs.declared.stage.Stage.{Stage}
-use Rattle.pool_session.specs.Lines.{ended, HasNoLf, Cut, all_lines}
+use Rattle.pool_session.specs.Lines.{ended, HasNoLf}
 use Rattle.pool_session.specs.Machine.{State, Answers, state_after}
-use Rattle.pool_session.specs.Run.{RunsLine, Runs, Fed, IsBroken, IsCut, EndsLine, RanAll, RanEnded, most_input}
+use Rattle.pool_session.specs.Run.{RunsLine, Runs, Fed, IsBroken, IsCut}
 
 -- what a command was asked for is what was answered
 pub answered : (s : State) (asked : Option Asked) (command : Option Command) (room : List ℕ) (answer : Answer) (stage : Stage) (flat : ℕ → List ℕ) (faults : ℕ) (refusals : Bool)
@@ -36,9 +36,14 @@ runs_append n s t u [] ys a b first second =
     let here : n + 0 ≡ n = omega arith in
     subst (λ (text : List ℕ). Runs n s ys (text ++ b) u) (sym first.0) (subst (λ m. Runs m s ys b u) here (subst (λ (v : State). Runs (n + 0) v ys b u) first.1 second))
 runs_append n s t u (x ∷ xs) ys a b first second =
-    let further : n + suc (length xs) ≡ n + 1 + length xs = omega arith in
-    (first.0, first.1, first.2 ++ b, first.3, runs_append (n + 1) first.0 t u xs ys first.2 b first.4 (subst (λ m. Runs m t ys b u) further second),
-     ap (λ (text : List ℕ). text ++ b) first.5 ∙ append_assoc first.1 first.2 b)
+    let further : n + suc (length xs) ≡ n + 1 + length xs = omega arith in (
+      first.0,
+      first.1,
+      first.2 ++ b,
+      first.3,
+      runs_append (n + 1) first.0 t u xs ys first.2 b first.4 (subst (λ m. Runs m t ys b u) further second),
+      ap (λ (text : List ℕ). text ++ b) first.5 ∙ append_assoc first.1 first.2 b,
+    )
 
 -- a run of one line
 pub runs_one : (n : ℕ) (s t : State) (line text : List ℕ) → RunsLine (n + 1) s line text t → Runs n s (line ∷ []) text t
@@ -79,8 +84,8 @@ module _ (number : ℕ) (s : State) (bytes before after : List ℕ) (m : ℕ) (t
         lines = fed.lines ++ line ∷ [];
         text = fed.text ++ now;
         whole = fed.whole ∙ ap (λ (xs : List ℕ). flat_map ended fed.lines ++ (open_line ++ xs)) is
-          ∙ ap (λ (xs : List ℕ). flat_map ended fed.lines ++ xs) (sym (append_assoc open_line first (10 ∷ next)))
-          ∙ sym (flat_last fed.lines line next);
+            ∙ ap (λ (xs : List ℕ). flat_map ended fed.lines ++ xs) (sym (append_assoc open_line first (10 ∷ next)))
+            ∙ sym (flat_last fed.lines line next);
         each = All-append HasNoLf fed.lines (line ∷ []) fed.each (All-cons HasNoLf line [] whole_line (All-nil HasNoLf));
         no_lf = All-nil (λ byte. byte ≢ 10);
         runs = runs_append number s t u fed.lines (line ∷ []) fed.text now fed.runs one;
@@ -98,7 +103,7 @@ module _ (number : ℕ) (s : State) (bytes before after : List ℕ) (m : ℕ) (t
     mid = t;
     now = now;
     whole = fed.whole ∙ ap (λ (xs : List ℕ). flat_map ended fed.lines ++ (open_line ++ xs)) is
-      ∙ ap (λ (xs : List ℕ). flat_map ended fed.lines ++ xs) (sym (append_assoc open_line first next));
+        ∙ ap (λ (xs : List ℕ). flat_map ended fed.lines ++ xs) (sym (append_assoc open_line first next));
     each = fed.each;
     no_lf = All-append (λ byte. byte ≢ 10) open_line first fed.no_lf no_lf;
     runs = fed.runs;

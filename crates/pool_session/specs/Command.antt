@@ -1,5 +1,5 @@
 -- What a line of the script asks for.
-use Rattle.std.specs.Prelude.{◌≡◌, take, MatchOption, Bool, true, ◌∷◌, ℕ, ◌%◌, ◌≤◌, ◌&&◌, ◌==◌, ◌^◌, Option, Some, None, List, [], length, nat_eq, nat_le, nat_lt, not, codes, replicate, if◌then◌else◌}
+use Rattle.std.specs.Prelude.{◌≡◌, take, MatchOption, Bool, true, ◌∷◌, ℕ, ◌%◌, ◌≤◌, ◌&&◌, ◌==◌, ◌^◌, Option, Some, None, List, [], length, nat_eq, nat_le, not, codes, replicate, if◌then◌else◌}
 use Rattle.std.specs.List.{list_any}
 use Rattle.std.specs.Option.{option_map}
 use lib.Pointwise.{pointwise}

@@ -1,5 +1,5 @@
 -- What the disk holds for the one image of the session: the folders of its domain, and the volume's file.
-use Rattle.std.specs.Prelude.{◌≡◌, ◌⊎◌, ℕ, ◌+◌, ◌-◌, ◌*◌, ◌/◌, ◌%◌, ◌≤◌, ◌^◌, List, [], length, Some, nat_le, nat_lt, ◌&&◌, if◌then◌else◌}
+use Rattle.std.specs.Prelude.{◌≡◌, ◌⊎◌, ℕ, ◌+◌, ◌-◌, ◌*◌, ◌/◌, ◌≤◌, List, [], length, Some, nat_le, nat_lt, ◌&&◌, if◌then◌else◌}
 use Rattle.sd_names.specs.declared.place.Dir.TheVariants.{Image as ImageDir}
 use Rattle.sd_names.specs.declared.place.Name.TheVariants.{Volume}
 use Rattle.sd_names.specs.declared.place.Place.{Place}

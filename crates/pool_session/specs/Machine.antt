@@ -1,5 +1,5 @@
 -- The flat machine of the first path: how it answers a command, and what the disk holds for it.
-use Rattle.std.specs.Prelude.{◌≡◌, ◌⊎◌, ℕ, ◌+◌, ◌-◌, ◌*◌, ◌/◌, ◌%◌, ◌^◌, ◌<◌, ◌≤◌, ◌&&◌, ◌||◌, min, Bool, true, false, List, [], ◌∷◌, ◌++◌, length, Option, Some, None, MatchOption, MatchBool, nat_eq, nat_le, decimal, if◌then◌else◌}
+use Rattle.std.specs.Prelude.{◌≡◌, ◌⊎◌, ℕ, ◌+◌, ◌-◌, ◌/◌, ◌%◌, ◌^◌, ◌≤◌, ◌&&◌, ◌||◌, min, Bool, List, ◌∷◌, ◌++◌, length, Option, Some, None, MatchOption, nat_eq, nat_le, decimal, if◌then◌else◌}
 use lib.Pointwise.{pointwise}
 use Rattle.sd_names.specs.Id.{id_text}
 use Rattle.sd_names.specs.declared.id.Id.{Id}
@@ -136,13 +136,13 @@ abbrev pub ActsAt : Option Content → Option Content → Stage → Stage → �
 ActsAt before after stage stage' faults faults' due bytes answer =
     (d : Content) (flat : ℕ → List ℕ) (refusals : Bool) → before ≡ Some d → StandsFor due flat d
     → (e : Content) × (flat' : ℕ → List ℕ) × (after ≡ Some e) × Stands stage' flat' e
-        × Acts (record { stage = stage; flat = flat; faults = faults; refusals = refusals }) due bytes answer
-            (state_after (record { stage = stage; flat = flat; faults = faults; refusals = refusals }) stage' flat' faults' answer)
+    × Acts (record { stage = stage; flat = flat; faults = faults; refusals = refusals }) due bytes answer
+    (state_after (record { stage = stage; flat = flat; faults = faults; refusals = refusals }) stage' flat' faults' answer)
 
 -- a line was answered, likewise
 abbrev pub AnswersAt : Option Content → Option Content → Stage → Stage → ℕ → ℕ → Option Asked → Answer → Type 0
 AnswersAt before after stage stage' faults faults' asked answer =
     (d : Content) (flat : ℕ → List ℕ) (refusals : Bool) → before ≡ Some d → Stands stage flat d
     → (e : Content) × (flat' : ℕ → List ℕ) × (after ≡ Some e) × Stands stage' flat' e
-        × Answers (record { stage = stage; flat = flat; faults = faults; refusals = refusals }) asked answer
-            (state_after (record { stage = stage; flat = flat; faults = faults; refusals = refusals }) stage' flat' faults' answer)
+    × Answers (record { stage = stage; flat = flat; faults = faults; refusals = refusals }) asked answer
+    (state_after (record { stage = stage; flat = flat; faults = faults; refusals = refusals }) stage' flat' faults' answer)

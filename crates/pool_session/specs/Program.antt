@@ -1,5 +1,5 @@
 -- What the words ask for, and how a session stands before its first line.
-use Rattle.std.specs.Prelude.{ℕ, Bool, false, true, List, [], ◌∷◌, nat_eq, codes}
+use Rattle.std.specs.Prelude.{ℕ, Bool, false, List, [], ◌∷◌, nat_eq, codes}
 use lib.Pointwise.{pointwise}
 use Rattle.shared_disk.specs.Content.{zero_sector}
 use Rattle.pool_session.specs.Machine.{State}

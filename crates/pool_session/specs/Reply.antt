@@ -1,5 +1,5 @@
 -- What a reply of the session stands for.
-use Rattle.std.specs.Prelude.{◌≡◌, ◌%◌, ◌≤◌, length, ℕ, List, [], ◌∷◌, ◌++◌, take, decimal}
+use Rattle.std.specs.Prelude.{◌≡◌, ◌%◌, ◌≤◌, length, ℕ, List, ◌∷◌, ◌++◌, take, decimal}
 use Rattle.sd_names.specs.Id.{id_text}
 use Rattle.script_lines.specs.Printed.{printed}
 use Rattle.pool_session.specs.Answer.{Answer, plain, done, refused}

@@ -1,5 +1,5 @@
 -- What a read and a write of a stream do to the bytes that it tells.
-use Rattle.std.specs.Prelude.{◌≡◌, ℕ, ◌<◌, ◌≤◌, ◌^◌, List, [], ◌++◌, length, take, drop, Result, Ok, Err, IsErr}
+use Rattle.std.specs.Prelude.{◌≡◌, ℕ, ◌<◌, ◌≤◌, ◌^◌, List, [], ◌++◌, take, Result, Ok, Err, IsErr}
 use Rattle.sd_names.specs.declared.turn.Failed.{Failed}
 use Rattle.shared_disk.specs.Calls.{Rose}
 

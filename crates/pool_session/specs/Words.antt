@@ -1,5 +1,5 @@
 -- Taking a line apart, word by word.
-use Rattle.std.specs.Prelude.{ℕ, Bool, true, false, Option, Some, None, List, [], ◌∷◌, nat_eq, option_and_then, if◌then◌else◌}
+use Rattle.std.specs.Prelude.{ℕ, Option, Some, None, List, [], ◌∷◌, nat_eq, option_and_then, if◌then◌else◌}
 use lib.Pointwise.{pointwise}
 use Rattle.sd_names.specs.declared.id.Id.{Id}
 use Rattle.sd_names.specs.Id.{id_of}

@@ -197,7 +197,11 @@ fn take_name(line: &[u8]) -> Option<(Id, &[u8])>
     ensures { option_map (λ taken. (taken.0, words taken.1.now)) result ≡ named_at (words line.now) }
 {
     let (id, rest) = take_id(line)?;
-    if id == Id::ZERO { None } else { Some((id, rest)) }
+    if id == Id::ZERO {
+        None
+    } else {
+        Some((id, rest))
+    }
 }
 
 /// A capacity, and the rest of the line.
@@ -248,7 +252,11 @@ fn run(word: &[u8], room: &mut [u8]) -> Option<usize>
         ((if is_run word.now then data_of word.now else None) ≡ None)
         (λ count. (if is_run word.now then data_of word.now else None) ≡ Some (take count room.new)) }
 {
-    if is_run(word) { decode(word, room) } else { None }
+    if is_run(word) {
+        decode(word, room)
+    } else {
+        None
+    }
 }
 
 /// Whether a word has a `*` and no `+`.

@@ -14,10 +14,11 @@ mod session;
 mod stage;
 mod status;
 mod stream;
-
+#[cfg(test)]
+mod tests;
 mod words;
 
 pub use memory::{MemorySink, MemorySource};
+pub use program::vdsm;
 pub use status::Status;
 pub use stream::{Sink, Source};
-pub use program::vdsm;

@@ -36,11 +36,19 @@ impl Machine {
         ensures stage { IfSome result (λ machine. machine.stage ≡ Stage.Off) }
     {
         let host = HostId::new(1)?;
-        Some(Machine { host, stage: Stage::Off })
+        Some(Machine {
+            host,
+            stage: Stage::Off,
+        })
     }
 
     /// Answers a command, or a line that asks for nothing.
-    pub fn answer<D: SharedDisk>(&mut self, command: Option<Command>, room: &mut [u8], disk: &mut D) -> Reply
+    pub fn answer<D: SharedDisk>(
+        &mut self,
+        command: Option<Command>,
+        room: &mut [u8],
+        disk: &mut D,
+    ) -> Reply
         requires sound { IfSome command IsSound }
         requires room { length room.old ≡ 65536 }
         ensures printable { IsPrintable result room.new }
@@ -154,7 +162,14 @@ impl Machine {
         }
     }
 
-    fn read<D: SharedDisk>(&mut self, image: Image, at: u64, count: usize, room: &mut [u8], disk: &mut D) -> Reply
+    fn read<D: SharedDisk>(
+        &mut self,
+        image: Image,
+        at: u64,
+        count: usize,
+        room: &mut [u8],
+        disk: &mut D,
+    ) -> Reply
         requires some { 1 ≤ count }
         requires most { count ≤ 65536 }
         requires room { length room.old ≡ 65536 }
@@ -190,7 +205,14 @@ pub fn front(room: &[u8], count: usize) -> &[u8]
 }
 
 /// Reads so many bytes of an image from an offset on to the front of some room.
-fn read_front<D: SharedDisk>(image: &Image, host: HostId, at: u64, count: usize, room: &mut [u8], disk: &mut D) -> Result<(), Refusal>
+fn read_front<D: SharedDisk>(
+    image: &Image,
+    host: HostId,
+    at: u64,
+    count: usize,
+    room: &mut [u8],
+    disk: &mut D,
+) -> Result<(), Refusal>
     requires aligned { IsAligned at }
     requires piece { IsPiece count }
     requires within { at + count ≤ image.now.capacity }
@@ -198,7 +220,7 @@ fn read_front<D: SharedDisk>(image: &Image, host: HostId, at: u64, count: usize,
     ensures count { D.faults disk.old ≤ D.faults disk.new }
     ensures content { (d : Content) (flat : ℕ → List ℕ) → D.content disk.old ≡ Some d → HoldsFlat image.now flat d
         → (D.content disk.new ≡ Some d)
-            × MatchResult result (λ _. ReadsFlat (at / 512) flat (take count room.new)) (λ refusal. IsFault (D.faults disk.old) (D.faults disk.new) refusal) }
+        × MatchResult result (λ _. ReadsFlat (at / 512) flat (take count room.new)) (λ refusal. IsFault (D.faults disk.old) (D.faults disk.new) refusal) }
 {
     let (front, _) = room.split_at_mut(count);
     image.read(host, at, front, disk)

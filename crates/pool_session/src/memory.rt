@@ -1,7 +1,6 @@
 // Streams in memory, that fail where they are told to.
 ghost use Rattle.std.specs.Prelude.{◌≡◌, ◌<◌, ◌≤◌, [], length, take, IfOk, vec_len, vec_capacity};
 
-
 use crate::{Sink, Source};
 use sd_names::{Failed, NoMemory, push_all};
 use std::alloc::Global;

@@ -46,7 +46,11 @@ impl Session {
         ensures refusals { IfOk result (λ session. session.refusals ≡ false) }
         ensures line { IfOk result (λ session. Holds session.line []) }
     {
-        match (Machine::new(), Line::new(alloc), Vec::with_capacity(alloc, REPLY_ROOM)) {
+        match (
+            Machine::new(),
+            Line::new(alloc),
+            Vec::with_capacity(alloc, REPLY_ROOM),
+        ) {
             (Some(machine), Ok(line), Ok(reply)) => Ok(Session {
                 machine,
                 line,
@@ -65,8 +69,8 @@ impl Session {
         ensures number { self.new.number ≡ self.old.number }
         ensures answered { (flat : ℕ → List ℕ) (line : List ℕ) → Reached self.old.machine.stage (D.content disk.old) flat → Holds self.old.line line
             → (sectors : ℕ → List ℕ) × Reached self.new.machine.stage (D.content disk.new) sectors
-                × ((answer : Answer) × Answers (state_of self.old flat (D.faults disk.old)) (asked_of line) answer (state_of self.new sectors (D.faults disk.new))
-                    × (self.new.reply.items ≡ reply_text self.old.number answer)) }
+            × ((answer : Answer) × Answers (state_of self.old flat (D.faults disk.old)) (asked_of line) answer (state_of self.new sectors (D.faults disk.new))
+            × (self.new.reply.items ≡ reply_text self.old.number answer)) }
     {
         let command = self.line.command(room);
         let reply = self.machine.answer(command, room, disk);
@@ -82,7 +86,7 @@ impl Session {
         ensures line { Holds self.new.line [] }
         ensures ran { (flat : ℕ → List ℕ) (line : List ℕ) → Reached self.old.machine.stage (D.content disk.old) flat → Holds self.old.line line
             → (sectors : ℕ → List ℕ) × Reached self.new.machine.stage (D.content disk.new) sectors
-                × RunsLine (self.old.number + 1) (state_of self.old flat (D.faults disk.old)) line self.new.reply.items (state_of self.new sectors (D.faults disk.new)) }
+            × RunsLine (self.old.number + 1) (state_of self.old flat (D.faults disk.old)) line self.new.reply.items (state_of self.new sectors (D.faults disk.new)) }
     {
         self.number += 1;
         self.reply.clear();
@@ -95,7 +99,12 @@ impl Session {
     }
 
     /// Runs the line that has come, and gives its reply, if it has one.
-    fn end_line<K: Sink, D: SharedDisk>(&mut self, room: &mut [u8], disk: &mut D, sink: &mut K) -> Result<(), Failed>
+    fn end_line<K: Sink, D: SharedDisk>(
+        &mut self,
+        room: &mut [u8],
+        disk: &mut D,
+        sink: &mut K,
+    ) -> Result<(), Failed>
         requires room { length room.old ≡ 65536 }
         requires few { self.old.number + 1 < 2 ^ 64 }
         ensures number { self.new.number ≡ self.old.number + 1 }
@@ -105,15 +114,21 @@ impl Session {
         ensures ran { (flat : ℕ → List ℕ) (line before : List ℕ) → Reached self.old.machine.stage (D.content disk.old) flat → Holds self.old.line line
             → K.given sink.old ≡ Some before
             → (sectors : ℕ → List ℕ) × (text : List ℕ) × (after : List ℕ) × Reached self.new.machine.stage (D.content disk.new) sectors
-                × RunsLine (self.old.number + 1) (state_of self.old flat (D.faults disk.old)) line text (state_of self.new sectors (D.faults disk.new))
-                × (K.given sink.new ≡ Some after) × Gives before text result after }
+            × RunsLine (self.old.number + 1) (state_of self.old flat (D.faults disk.old)) line text (state_of self.new sectors (D.faults disk.new))
+            × (K.given sink.new ≡ Some after) × Gives before text result after }
     {
         self.run_line(room, disk);
         give(&self.reply, sink)
     }
 
     /// Takes the next bytes of the script: runs each line that they end, and gives its reply before it goes on.
-    fn feed<K: Sink, D: SharedDisk>(&mut self, piece: &[u8], room: &mut [u8], disk: &mut D, sink: &mut K) -> Result<(), Failed>
+    fn feed<K: Sink, D: SharedDisk>(
+        &mut self,
+        piece: &[u8],
+        room: &mut [u8],
+        disk: &mut D,
+        sink: &mut K,
+    ) -> Result<(), Failed>
         requires room { length room.old ≡ 65536 }
         requires few { self.old.number + length piece.now < 2 ^ 63 }
         ensures number { self.new.number ≤ self.old.number + length piece.now }
@@ -122,10 +137,10 @@ impl Session {
         ensures fed { (flat : ℕ → List ℕ) (line before : List ℕ) → Reached self.old.machine.stage (D.content disk.old) flat → Holds self.old.line line → HasNoLf line
             → K.given sink.old ≡ Some before
             → (sectors : ℕ → List ℕ) × (after : List ℕ) × Reached self.new.machine.stage (D.content disk.new) sectors × (K.given sink.new ≡ Some after)
-                × MatchResult result
-                    (λ _. (last : List ℕ) × Holds self.new.line last
-                        × Fed self.old.number (state_of self.old flat (D.faults disk.old)) (line ++ piece.now) [] before after self.new.number (state_of self.new sectors (D.faults disk.new)) last)
-                    (λ _. (rest : List ℕ) × IsBroken self.old.number (state_of self.old flat (D.faults disk.old)) (line ++ piece.now) (10 ∷ rest) before after (state_of self.new sectors (D.faults disk.new))) }
+            × MatchResult result
+            (λ _. (last : List ℕ) × Holds self.new.line last
+            × Fed self.old.number (state_of self.old flat (D.faults disk.old)) (line ++ piece.now) [] before after self.new.number (state_of self.new sectors (D.faults disk.new)) last)
+            (λ _. (rest : List ℕ) × IsBroken self.old.number (state_of self.old flat (D.faults disk.old)) (line ++ piece.now) (10 ∷ rest) before after (state_of self.new sectors (D.faults disk.new))) }
     {
         let mut rest = piece;
         while let Some((first, next)) = split_line(rest) {
@@ -140,7 +155,12 @@ impl Session {
     }
 
     /// Runs the last line, which no LF ends, and says how the session has ended.
-    fn finish<K: Sink, D: SharedDisk>(&mut self, room: &mut [u8], disk: &mut D, sink: &mut K) -> Status
+    fn finish<K: Sink, D: SharedDisk>(
+        &mut self,
+        room: &mut [u8],
+        disk: &mut D,
+        sink: &mut K,
+    ) -> Status
         requires room { length room.old ≡ 65536 }
         requires few { self.old.number + 1 < 2 ^ 64 }
         ensures failed { result ≡ Status.WriteFault → Rose (K.faults sink.old) (K.faults sink.new) }
@@ -148,8 +168,8 @@ impl Session {
         ensures ran { (flat : ℕ → List ℕ) (line before : List ℕ) → Reached self.old.machine.stage (D.content disk.old) flat → Holds self.old.line line
             → K.given sink.old ≡ Some before
             → (sectors : ℕ → List ℕ) × (text : List ℕ) × (after : List ℕ) × Reached self.new.machine.stage (D.content disk.new) sectors
-                × RunsLine (self.old.number + 1) (state_of self.old flat (D.faults disk.old)) line text (state_of self.new sectors (D.faults disk.new))
-                × (K.given sink.new ≡ Some after) × Finishes result before text after (state_of self.new sectors (D.faults disk.new)) }
+            × RunsLine (self.old.number + 1) (state_of self.old flat (D.faults disk.old)) line text (state_of self.new sectors (D.faults disk.new))
+            × (K.given sink.new ≡ Some after) × Finishes result before text after (state_of self.new sectors (D.faults disk.new)) }
     {
         match self.end_line(room, disk, sink) {
             Err(_) => Status::WriteFault,
@@ -164,7 +184,14 @@ impl Session {
     }
 
     /// Runs the script that the source gives, line by line as it comes.
-    pub fn run<S: Source, K: Sink, D: SharedDisk>(&mut self, source: &mut S, piece: &mut [u8], room: &mut [u8], disk: &mut D, sink: &mut K) -> Status
+    pub fn run<S: Source, K: Sink, D: SharedDisk>(
+        &mut self,
+        source: &mut S,
+        piece: &mut [u8],
+        room: &mut [u8],
+        disk: &mut D,
+        sink: &mut K,
+    ) -> Status
         requires room { length room.old ≡ 65536 }
         requires piece { 0 < length piece.old }
         requires first { self.old.number ≡ 0 }
@@ -175,8 +202,8 @@ impl Session {
         ensures ends { (flat : ℕ → List ℕ) (input before : List ℕ) → S.left source.old ≡ Some input → K.given sink.old ≡ Some before
             → Reached self.old.machine.stage (D.content disk.old) flat → Holds self.old.line []
             → (sectors : ℕ → List ℕ) × (left : List ℕ) × (after : List ℕ) × Reached self.new.machine.stage (D.content disk.new) sectors
-                × (S.left source.new ≡ Some left) × (K.given sink.new ≡ Some after)
-                × Ends result (state_of self.old flat (D.faults disk.old)) input left before after (state_of self.new sectors (D.faults disk.new)) }
+            × (S.left source.new ≡ Some left) × (K.given sink.new ≡ Some after)
+            × Ends result (state_of self.old flat (D.faults disk.old)) input left before after (state_of self.new sectors (D.faults disk.new)) }
     {
         let mut taken = 0;
         while taken <= MAX_INPUT {

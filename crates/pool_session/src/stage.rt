@@ -54,17 +54,33 @@ impl Stage {
             (Stage::Off, Command::Boot) => Some(Act::Boot),
             (Stage::Up, Command::MakePool(sd)) => Some(Act::MakePool(*sd)),
             (Stage::Pooled(known), Command::SpmStart(sd)) => {
-                if sd == known { Some(Act::SpmStart(*known)) } else { None }
+                if sd == known {
+                    Some(Act::SpmStart(*known))
+                } else {
+                    None
+                }
             }
             (Stage::Managed(known), Command::Create(image)) => create_in(known, image),
             (Stage::Created(known), Command::Open(sd, image)) => {
-                if known.is_named(sd, image) { Some(Act::Open(*known)) } else { None }
+                if known.is_named(sd, image) {
+                    Some(Act::Open(*known))
+                } else {
+                    None
+                }
             }
             (Stage::Opened(known), Command::Write(sd, image, at, count)) => {
-                if known.is_named(sd, image) { Some(Act::Write(*known, *at, *count)) } else { None }
+                if known.is_named(sd, image) {
+                    Some(Act::Write(*known, *at, *count))
+                } else {
+                    None
+                }
             }
             (Stage::Opened(known), Command::Read(sd, image, at, count)) => {
-                if known.is_named(sd, image) { Some(Act::Read(*known, *at, *count)) } else { None }
+                if known.is_named(sd, image) {
+                    Some(Act::Read(*known, *at, *count))
+                } else {
+                    None
+                }
             }
             _ => None,
         }

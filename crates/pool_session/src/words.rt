@@ -41,7 +41,11 @@ pub fn skip_word<'a>(line: &'a [u8], text: &[u8]) -> Option<&'a [u8]>
     ensures { option_map (λ rest. words rest.now) result ≡ behind text.now (words line.now) }
 {
     let (word, rest) = take_word(line)?;
-    if is_word(word, text) { Some(rest) } else { None }
+    if is_word(word, text) {
+        Some(rest)
+    } else {
+        None
+    }
 }
 
 /// The rest of a line that begins with this number.

@@ -9,9 +9,7 @@ mod tests;
 mod words;
 
 use folder_disk::FolderDisk;
-use pool_session::{Sink, Source};
-use shared_disk::SharedDisk;
-use std::alloc::Global;
+use pool_session::vdsm;
 use std::process::ExitCode;
 use std_stream::{StdSink, StdSource};
 use words::NoWords;
@@ -45,7 +43,7 @@ fn run(rt: &HostRuntime) -> u8 {
         (Ok(words), Ok(mut disk)) => {
             let mut source = StdSource::new(rt.stdin());
             let mut sink = StdSink::new(rt.stdout());
-            command(
+            vdsm(
                 rt.alloc(),
                 words.as_slice(),
                 words::moment(rt),
@@ -53,19 +51,8 @@ fn run(rt: &HostRuntime) -> u8 {
                 &mut sink,
                 &mut disk,
             )
+            .code()
         }
         _ => NO_MEMORY,
     }
-}
-
-// No command is there yet, so no words name one.
-fn command<'a, S: Source, K: Sink, D: SharedDisk>(
-    _alloc: Global,
-    _words: &'a [&'a str],
-    _moment: u64,
-    _source: &mut S,
-    _sink: &mut K,
-    _disk: &mut D,
-) -> u8 {
-    BAD_WORDS
 }

@@ -1,4 +1,4 @@
-use Rattle.std.proofs.Common.{◌≡◌, ℕ, suc, Bool, false, List, map, length, ◌+◌, ◌≤◌, ◌<◌, [], ◌∷◌, Bor, nat_eq, codes, refl, arith, ◌∙◌}
+use Rattle.std.proofs.Common.{◌≡◌, ℕ, suc, false, List, map, length, ◌≤◌, ◌<◌, [], ◌∷◌, Bor, nat_eq, codes, refl, arith, ◌∙◌}
 use lib.Pointwise.{pointwise}
 use lib.ListN.{get_or}
 use Rattle.pool_session.specs.Program.{is_session}

@@ -1,4 +1,4 @@
-use Rattle.std.proofs.Common.{◌≡◌, ◌⊎◌, ℕ, Bool, false, List, refl, sym, ap, ◌∙◌, subst, inl, inr}
+use Rattle.std.proofs.Common.{◌≡◌, ℕ, Bool, false, refl, sym, ap, ◌∙◌, subst, inl, inr}
 use Rattle.shared_disk.specs.Content.{zero_sector}
 use Rattle.pool_session.specs.Program.{start}
 use Rattle.pool_session.specs.Machine.{State, Stands}
@@ -24,6 +24,15 @@ returns-in-Ok-Ok-Ok-clause-ends g c input before d tells given content empty =
     let session = c.in-Ok-Ok-Ok.session in
     let reached : Reached session.machine.stage (g.D.SharedDisk.content c.args.disk.now) (λ n. zero_sector) = record { disk = d; tells = content; stands = subst (λ (stage : Stage). Stands stage (λ n. zero_sector) d) (sym c.in-Ok-Ok-Ok.ensures.stage) empty } in
     let ran = c.run.ensures.ends (λ n. zero_sector) input before tells given reached c.in-Ok-Ok-Ok.ensures.line in
-    let t = state_of c.run.new.self ran.0 (g.D.SharedDisk.faults c.run.new.disk) in
-    (ran.1, ran.2, ran.3.disk, t, ran.4, ran.5, ran.3.tells, ran.3.stands, refl,
-     subst (λ (s : State). Ends c.run.result s input ran.1 before ran.2 t) (starts session (g.D.SharedDisk.faults c.args.disk.now) c.in-Ok-Ok-Ok.ensures.stage c.in-Ok-Ok-Ok.ensures.refusals) ran.6)
+    let t = state_of c.run.new.self ran.0 (g.D.SharedDisk.faults c.run.new.disk) in (
+      ran.1,
+      ran.2,
+      ran.3.disk,
+      t,
+      ran.4,
+      ran.5,
+      ran.3.tells,
+      ran.3.stands,
+      refl,
+      subst (λ (s : State). Ends c.run.result s input ran.1 before ran.2 t) (starts session (g.D.SharedDisk.faults c.args.disk.now) c.in-Ok-Ok-Ok.ensures.stage c.in-Ok-Ok-Ok.ensures.refusals) ran.6,
+    )

@@ -1,4 +1,4 @@
-use Rattle.std.proofs.Common.{◌≡◌, ◌≤◌, length, take, arith, rules}
+use Rattle.std.proofs.Common.{◌≡◌, length, take, arith, rules}
 use Rattle.script_lines.specs.Words.{words}
 use Rattle.pool_session.specs.Words.{at_end}
 use Rattle.pool_session.specs.Command.{write_of}

@@ -1,4 +1,4 @@
-use Rattle.std.proofs.Common.{◌≡◌, Some, ap, ◌∙◌, slice_get}
+use Rattle.std.proofs.Common.{ap, ◌∙◌, slice_get}
 use Rattle.pool_session.proofs.LineLemmas.{silent_some, silent_none}
 use Rattle.pool_session.proofs.line.Line.is_silent.Goals as goal
 

@@ -9,6 +9,10 @@ returns-in-Some-clause-content g c d flat refusals tells stands =
     let fits = due_fits c.args.self.now.stage asked.0 c.in-Some.act asked.2 in
     let ran = c.run.ensures.content d flat refusals tells (fits.stands flat d stands) in
     let s = state_at c.args.self.now.stage flat (g.D.SharedDisk.faults c.args.disk.now) refusals in
-    let answer = answer_of c.run.result c.run.new.room in
-    (ran.0, ran.1, ran.2, ran.3,
-     answers_due s (state_after s c.run.new.self.stage ran.1 (g.D.SharedDisk.faults c.run.new.disk) answer) c.args.command asked.0 c.in-Some.act answer c.args.room.now asked.1 asked.2 ran.4)
+    let answer = answer_of c.run.result c.run.new.room in (
+      ran.0,
+      ran.1,
+      ran.2,
+      ran.3,
+      answers_due s (state_after s c.run.new.self.stage ran.1 (g.D.SharedDisk.faults c.run.new.disk) answer) c.args.command asked.0 c.in-Some.act answer c.args.room.now asked.1 asked.2 ran.4,
+    )

@@ -1,4 +1,4 @@
-use Rattle.std.proofs.Common.{ap, refl, inl, inr}
+use Rattle.std.proofs.Common.{ap, refl, inr}
 use Rattle.pool_session.specs.Answer.{refused}
 use Rattle.pool_session.proofs.machine.Machine.create.Goals as goal
 
