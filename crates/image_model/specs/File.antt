@@ -1,5 +1,5 @@
 -- A file as its numbers say it. Bytes past its end read as zeros.
-use Rattle.std.specs.Prelude.{ℕ, ◌+◌, ◌*◌, ◌/◌, ◌%◌, nat_lt, if◌then◌else◌, List, slice_index, replicate}
+use Rattle.std.specs.Prelude.{ℕ, ◌*◌, ◌/◌, ◌%◌, nat_lt, if◌then◌else◌, List, slice_index, replicate}
 use Rattle.std.specs.List.{flat_map, range_with_len}
 use Rattle.qcow_format.specs.Bytes.{number}
 

@@ -1,6 +1,6 @@
 -- The first thing that is wrong with a layer. What a file names is numbered by positions: the header's cluster, those
 -- of the L1 table and of the refcount table, the refcount blocks, and each L1 entry with the entries of its L2 table.
-use Rattle.std.specs.Prelude.{◌≡◌, ℕ, ◌+◌, ◌-◌, ◌*◌, ◌/◌, ◌%◌, ◌<◌, ◌≤◌, nat_lt, nat_le, ◌==◌, ◌&&◌, not, if◌then◌else◌, Option, Some, None, Result, Ok, Err, MatchResult}
+use Rattle.std.specs.Prelude.{◌≡◌, ℕ, ◌+◌, ◌-◌, ◌*◌, ◌/◌, ◌%◌, ◌<◌, nat_lt, nat_le, ◌==◌, not, if◌then◌else◌, Option, Some, None, Result, Ok, Err, MatchResult}
 use Rattle.sd_names.specs.declared.fault.LayerFault.{LayerFault}
 use Rattle.sd_names.specs.declared.fault.LayerFault.TheVariants.{Short, Size, MixedBits, OutOfFile, Shared, LowRefcount, Tail}
 use Rattle.qcow_format.specs.declared.header.Header.{Header}
