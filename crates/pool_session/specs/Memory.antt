@@ -18,3 +18,17 @@ sink_given s = s.bytes.items
 -- how often it has failed
 abbrev pub sink_faults : MemorySink → ℕ
 sink_faults s = s.faults
+
+-- the most bytes of each read, and the numbers of the reads that fail
+abbrev pub source_pieces : MemorySource → List ℕ
+source_pieces s = s.pieces.items
+
+abbrev pub source_failing : MemorySource → List ℕ
+source_failing s = s.failing.items
+
+-- the most bytes that are given, and the numbers of the writes that fail
+abbrev pub sink_room : MemorySink → ℕ
+sink_room s = s.room
+
+abbrev pub sink_failing : MemorySink → List ℕ
+sink_failing s = s.failing.items

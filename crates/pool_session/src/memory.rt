@@ -18,12 +18,14 @@ pub struct MemorySource {
 }
 
 impl MemorySource {
-    ghost use Rattle.pool_session.specs.Memory.{source_left, source_faults};
+    ghost use Rattle.pool_session.specs.Memory.{source_left, source_faults, source_pieces, source_failing};
 
     /// A source of these bytes. The n-th read gives at most as many bytes as `pieces` says, where 0 counts as 1; past its
     /// end a read gives as many as fit. The reads whose numbers, from 0, stand in `failing` fail.
     pub fn new(bytes: Vec<u8>, pieces: Vec<usize>, failing: Vec<u64>) -> MemorySource
         ensures left { source_left result ≡ bytes.items }
+        ensures pieces { source_pieces result ≡ pieces.items }
+        ensures failing { source_failing result ≡ failing.items }
         ensures faults { source_faults result ≡ 0 }
     {
         MemorySource {
@@ -100,11 +102,13 @@ pub struct MemorySink {
 }
 
 impl MemorySink {
-    ghost use Rattle.pool_session.specs.Memory.{sink_given, sink_faults};
+    ghost use Rattle.pool_session.specs.Memory.{sink_given, sink_faults, sink_room, sink_failing};
 
     /// A sink with room for so many bytes. The writes whose numbers, from 0, stand in `failing` fail.
     pub fn new(alloc: Global, room: usize, failing: Vec<u64>) -> Result<MemorySink, NoMemory>
         ensures given { IfOk result (λ sink. sink_given sink ≡ []) }
+        ensures room { IfOk result (λ sink. sink_room sink ≡ room) }
+        ensures failing { IfOk result (λ sink. sink_failing sink ≡ failing.items) }
         ensures faults { IfOk result (λ sink. sink_faults sink ≡ 0) }
     {
         match Vec::with_capacity(alloc, room) {
