@@ -1,5 +1,5 @@
 // The refusals of the store, each with its number.
-ghost use Rattle.std.specs.Prelude.{◌≡◌, ◌+◌, ◌≤◌, ◌∷◌, ◌++◌, Some, length, vec_capacity};
+ghost use Rattle.std.specs.Prelude.{◌≡◌, ◌+◌, ◌≤◌, ◌∷◌, ◌++◌, [], Some, decimal, length, vec_capacity};
 ghost use Rattle.sd_names.specs.Fault.{layer_fault_words};
 ghost use Rattle.sd_names.specs.Id.{id_text};
 ghost use Rattle.sd_names.specs.Refusal.{refusal_number, refusal_name, refusal_values, refusal_text};
@@ -224,96 +224,47 @@ impl Refusal {
         ensures short { AreShort result }
     {
         match *self {
-            Refusal::BadLine
-            | Refusal::LineTooLong
-            | Refusal::UnknownVerb
-            | Refusal::NotBuilt
-            | Refusal::HostDown
-            | Refusal::HostBusy
-            | Refusal::HostIdle
-            | Refusal::HostUp
-            | Refusal::TooManyHosts
-            | Refusal::NoPool
-            | Refusal::NoDomain
-            | Refusal::DomainExists
-            | Refusal::TooManyDomains
-            | Refusal::NotSpm
-            | Refusal::NoImage
-            | Refusal::ImageExists
-            | Refusal::ImageNotOpen
-            | Refusal::LeaseAreaFull
-            | Refusal::ImageOpen
-            | Refusal::TooManyOpen
-            | Refusal::NoReadingVolume
-            | Refusal::LastVolume
-            | Refusal::NotPrepared
-            | Refusal::NotMerging
-            | Refusal::NoTask
-            | Refusal::TasksFull
-            | Refusal::BoxFull
-            | Refusal::OutOfMemory => Values::Zero,
-            Refusal::BadArgument(argument) => Values::One(Value::Number(argument)),
-            Refusal::OthersUp(host) => Values::One(Value::Number(u64::from(host))),
-            Refusal::PoolExists(sd) => Values::One(Value::Identifier(sd)),
             Refusal::DomainCorrupt(fault) => fault.values(),
-            Refusal::WrongVersion(version) => Values::One(Value::Number(version)),
-            Refusal::SpmHeld(host, lver) => Values::Two(
-                Value::Number(u64::from(host)),
-                Value::Number(lver),
-            ),
-            Refusal::LverMismatch(asked, found) => Values::Two(
-                Value::Number(asked),
-                Value::Number(found),
-            ),
-            Refusal::PrevMismatch(asked, found) => Values::Two(
-                Value::Number(u64::from(asked)),
-                Value::Number(u64::from(found)),
-            ),
-            Refusal::ImageHeld(host) => Values::One(Value::Number(u64::from(host))),
-            Refusal::LeaseCorrupt(slot) => Values::One(Value::Number(slot)),
-            Refusal::NoVolume(v) => Values::One(Value::Identifier(v)),
-            Refusal::VolumeExists(v) => Values::One(Value::Identifier(v)),
-            Refusal::HasChildren(child) => Values::One(Value::Identifier(child)),
-            Refusal::VolumeIllegal(v) => Values::One(Value::Identifier(v)),
+            Refusal::LayerRefused(v, fault) => layer_values(v, fault),
+            Refusal::Vanished(answer) => Values::One(Value::Word(answer.name())),
             Refusal::MetaCorrupt(v, fault) => Values::Two(
                 Value::Identifier(v),
                 Value::Word(fault.word()),
             ),
-            Refusal::GenerationMismatch(asked, found) => Values::Two(
-                Value::Number(asked),
-                Value::Number(found),
-            ),
             Refusal::WrongParent(v, found) => Values::Two(
                 Value::Identifier(v),
                 Value::Identifier(found),
-            ),
-            Refusal::ChainTooLong(count) => Values::One(Value::Number(count)),
-            Refusal::BadCapacity(asked, bound) => Values::Two(
-                Value::Number(asked),
-                Value::Number(bound),
-            ),
-            Refusal::OutOfRange(end, capacity) => Values::Two(
-                Value::Number(end),
-                Value::Number(capacity),
             ),
             Refusal::NoRoom(v, room, wanted) => Values::Three(
                 Value::Identifier(v),
                 Value::Number(room),
                 Value::Number(wanted),
             ),
-            Refusal::Unaligned(at, length) => Values::Two(Value::Number(at), Value::Number(length)),
-            Refusal::LayerRefused(v, fault) => layer_values(v, fault),
-            Refusal::MergeRunning(base) => Values::One(Value::Identifier(base)),
-            Refusal::MergeNotReady(front, end) => Values::Two(
-                Value::Number(front),
-                Value::Number(end),
-            ),
-            Refusal::TaskOpen(task) => Values::One(Value::Identifier(task)),
-            Refusal::TaskExists(task) => Values::One(Value::Identifier(task)),
-            Refusal::TaskCorrupt(task) => Values::One(Value::Identifier(task)),
-            Refusal::DiskFault(count) => Values::One(Value::Number(count)),
-            Refusal::ImageBroken(count) => Values::One(Value::Number(count)),
-            Refusal::Vanished(answer) => Values::One(Value::Word(answer.name())),
+            Refusal::SpmHeld(host, lver) => two_numbers(u64::from(host), lver),
+            Refusal::PrevMismatch(asked, found) => two_numbers(u64::from(asked), u64::from(found)),
+            Refusal::OthersUp(host) | Refusal::ImageHeld(host) => one_number(u64::from(host)),
+            Refusal::BadArgument(number)
+            | Refusal::WrongVersion(number)
+            | Refusal::LeaseCorrupt(number)
+            | Refusal::ChainTooLong(number)
+            | Refusal::DiskFault(number)
+            | Refusal::ImageBroken(number) => one_number(number),
+            Refusal::LverMismatch(first, second)
+            | Refusal::GenerationMismatch(first, second)
+            | Refusal::BadCapacity(first, second)
+            | Refusal::OutOfRange(first, second)
+            | Refusal::Unaligned(first, second)
+            | Refusal::MergeNotReady(first, second) => two_numbers(first, second),
+            Refusal::PoolExists(id)
+            | Refusal::NoVolume(id)
+            | Refusal::VolumeExists(id)
+            | Refusal::HasChildren(id)
+            | Refusal::VolumeIllegal(id)
+            | Refusal::MergeRunning(id)
+            | Refusal::TaskOpen(id)
+            | Refusal::TaskExists(id)
+            | Refusal::TaskCorrupt(id) => Values::One(Value::Identifier(id)),
+            _ => Values::Zero,
         }
     }
 
@@ -340,6 +291,22 @@ impl Refusal {
         }
         text
     }
+}
+
+// One number as the only value.
+fn one_number(number: u64) -> Values
+    ensures texts { value_texts result ≡ decimal number ∷ [] }
+    ensures short { AreShort result }
+{
+    Values::One(Value::Number(number))
+}
+
+// Two numbers as the only values.
+fn two_numbers(first: u64, second: u64) -> Values
+    ensures texts { value_texts result ≡ decimal first ∷ decimal second ∷ [] }
+    ensures short { AreShort result }
+{
+    Values::Two(Value::Number(first), Value::Number(second))
 }
 
 // The values of a refused layer: the volume, the fault's name, and the fault's number where it has one.
