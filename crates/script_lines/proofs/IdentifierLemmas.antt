@@ -25,7 +25,7 @@ tested false o u e = cc e
 value_small : (c : ℕ) → is_hex_digit c ≡ true → value_of c < 16
 value_small c digit = grind (arith, nat_tests)
 
-passes_at : (p : ℕ → Bool) (xs : List ℕ) (k : ℕ) → k < length xs → list_all p xs ≡ true → p (get_or xs k 0) ≡ true
+pub passes_at : (p : ℕ → Bool) (xs : List ℕ) (k : ℕ) → k < length xs → list_all p xs ≡ true → p (get_or xs k 0) ≡ true
 passes_at p [] k within all = absurd (omega arith)
 passes_at p (x ∷ xs) zero within all = (and_parts (p x) (list_all p xs) all).0
 passes_at p (x ∷ xs) (suc k) within all = passes_at p xs k (omega arith) (and_parts (p x) (list_all p xs) all).1

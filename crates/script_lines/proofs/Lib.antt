@@ -8,3 +8,7 @@ pub mod ReplyLemmas
 pub mod IdentifierLemmas
 pub mod SaidLemmas
 pub mod EventLemmas
+pub mod JoinedLemmas
+pub mod PrintedAgainLemmas
+pub mod SpelledLemmas
+pub mod SpelledEventLemmas

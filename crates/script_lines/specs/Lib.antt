@@ -9,3 +9,4 @@ pub mod VerbWord
 pub mod Verbs
 pub mod Said
 pub mod Event
+pub mod Spelled

@@ -4,11 +4,14 @@
 mod arguments;
 mod data;
 mod event;
+mod laws;
 mod line;
 mod numbers;
 mod places;
 mod printed;
 mod reply;
+#[cfg(test)]
+mod reply_tests;
 #[cfg(test)]
 mod tests;
 mod values;
@@ -18,6 +21,7 @@ mod words;
 
 pub use data::{MAX_DATA, decode};
 pub use event::{Line, event_of};
+pub use laws::{printed_data_reads_again, spelled_events_read_again};
 pub use line::{MAX_LINE, Said, read_line};
 pub use numbers::number;
 pub use printed::push_data;
