@@ -1,7 +1,7 @@
 -- The length of a line, and what stands behind it.
-use Rattle.std.proofs.Common.{◌≡◌, ◌+◌, ◌++◌, ◌∷◌, [], ℕ, List, length, drop, ap, sym, ◌∙◌, arith, length-append}
+use Rattle.std.proofs.Common.{◌≡◌, ◌+◌, ◌++◌, ◌∷◌, [], ℕ, List, length, drop, ap, sym, refl, ◌∙◌, arith, length-append}
 use Rattle.std.proofs.lemmas.List.{drop-drop}
-use Rattle.kv_text.specs.Text.{line}
+use Rattle.kv_text.specs.Text.{KeyValue, line, text_of}
 
 pub length-line : (key value : List ℕ) → length (line key value) ≡ length key + length value + 2
 length-line key value =
@@ -14,3 +14,13 @@ drop-line key value behind =
     ∙ sym (drop-drop 1 (length key + 1 + length value) behind)
     ∙ ap (drop 1) (sym (drop-drop (length value) (length key + 1) behind))
     ∙ ap (λ (b : List ℕ). drop 1 (drop (length value) b)) (sym (drop-drop 1 (length key) behind))
+
+-- the length of a text that was written
+abbrev pub total : List KeyValue → ℕ
+total [] = 0
+total (p ∷ ps) = length p.key + length p.value + 2 + total ps
+
+pub length-text_of : (ps : List KeyValue) → length (text_of ps) ≡ total ps
+length-text_of [] = refl
+length-text_of (p ∷ ps) =
+    omega (arith, length-append (line p.key p.value) (text_of ps), length-line p.key p.value, length-text_of ps)

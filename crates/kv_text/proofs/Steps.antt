@@ -1,5 +1,5 @@
 -- The first line of a text, and what stands on the lines behind it.
-use Rattle.std.proofs.Common.{◌≡◌, ◌==◌, ◌||◌, ℕ, suc, ◌+◌, ◌≤◌, Bool, true, false, List, [], ◌∷◌, length, refl, sym, ap, ◌∙◌, arith, inl, inr}
+use Rattle.std.proofs.Common.{◌≡◌, ◌==◌, ◌||◌, ◌⊎◌, ℕ, suc, ◌+◌, ◌≤◌, Bool, true, false, List, [], ◌∷◌, length, refl, sym, ap, ◌∙◌, arith, inl, inr}
 use Rattle.std.specs.List.{before_first, after_first, list_any, position_or_len}
 use Rattle.std.proofs.lemmas.List.{take_all, drop_all}
 use Rattle.std.proofs.lemmas.List.Splits.{slice_split_first, slice_split_none}
@@ -21,7 +21,14 @@ module _ (text : List ℕ) (h : length text ≤ position_or_len is_line_feed tex
   lines_all =
       slice_split_none is_line_feed text (λ k d below. fails_before_first is_line_feed text k d (omega arith))
 
-or_true : (b : Bool) → (b || true) ≡ true
+-- the lines of a text are its first line and those behind it, or it is one line
+pub lines_first : (text : List ℕ) → (lines text ≡ before_first is_line_feed text ∷ lines (after_first is_line_feed text)) ⊎ ((lines text ≡ text ∷ []) × (before_first is_line_feed text ≡ text) × (after_first is_line_feed text ≡ []))
+lines_first text = elim (cases_lt (position_or_len is_line_feed text) (length text)) [
+  | inl h ↦ inl (slice_split_first is_line_feed text 0 h)
+  | inr h ↦ inr (lines_all text h, before_all text h, after_all text h)
+]
+
+pub or_true : (b : Bool) → (b || true) ≡ true
 or_true true = refl
 or_true false = refl
 
@@ -38,7 +45,7 @@ has_eof-lines text = elim (cases_lt (position_or_len is_line_feed text) (length 
   | inr h ↦ rw (lines_all text h, before_all text h, after_all text h) refl
 ]
 
-suc_full : (n : ℕ) → (suc n == 0) ≡ false
+pub suc_full : (n : ℕ) → (suc n == 0) ≡ false
 suc_full n = grind (arith, nat_tests)
 
 is_eof-full : (line : List ℕ) → is_eof line ≡ true → (length line == 0) ≡ false

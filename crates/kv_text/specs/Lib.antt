@@ -5,3 +5,4 @@ pub mod Written
 pub mod Next
 pub mod Lookup
 pub mod Number
+pub mod Ids

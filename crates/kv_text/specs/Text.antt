@@ -1,7 +1,7 @@
 -- Texts of keys and values: lines that are cut at each line feed, with a key before the first `=` of a
 -- line and its value behind it.
-use Rattle.std.specs.Prelude.{ℕ, ◌+◌, ◌-◌, ◌^◌, min, Bool, List, [], ◌∷◌, ◌++◌, length, is_some, Result, Ok, Err, codes, if◌then◌else◌, ◌==◌}
-use Rattle.std.specs.List.{slice_split, before_first, after_first, list_any, filter_map, position}
+use Rattle.std.specs.Prelude.{◌≡◌, ℕ, ◌+◌, ◌-◌, ◌^◌, min, Bool, false, List, [], ◌∷◌, ◌++◌, length, is_some, Result, Ok, Err, codes, if◌then◌else◌, ◌==◌}
+use Rattle.std.specs.List.{slice_split, before_first, after_first, list_any, filter_map, flat_map, position}
 use Rattle.std.specs.Result.{result_ok}
 use Rattle.std.specs.Str.{bytes_eq}
 
@@ -58,3 +58,21 @@ has_eof text = list_any is_eof (lines text)
 -- a line as it is written, with its line feed
 abbrev pub line : List ℕ → List ℕ → List ℕ
 line key value = key ++ 61 ∷ value ++ 10 ∷ []
+
+-- the line of a pair, without its line feed
+abbrev pub whole : KeyValue → List ℕ
+whole p = p.key ++ 61 ∷ p.value
+
+-- the lines of pairs, one behind the other
+abbrev pub text_of : List KeyValue → List ℕ
+text_of ps = flat_map (λ p. line p.key p.value) ps
+
+-- bytes without a line feed, as each value of a text is
+abbrev pub IsOneLine : List ℕ → Type 0
+IsOneLine bytes = list_any is_line_feed bytes ≡ false
+
+-- a pair whose line is read as this pair
+pub record IsWritable (p : KeyValue) : Type 0 where
+  pub key : IsOneLine p.key
+  pub divided : list_any is_equals_sign p.key ≡ false
+  pub value : IsOneLine p.value

@@ -1,6 +1,8 @@
 //! Texts of keys and values, a pair on each line, read and written in place.
 #![tactic(auto)]
 
+mod id;
+mod laws;
 mod lines;
 mod lookup;
 mod number;
@@ -8,10 +10,13 @@ mod pair;
 mod split;
 mod writer;
 
+pub use id::read_own_id;
+pub use laws::{values_read_back, written_pairs_read_back};
 pub use lines::Lines;
 pub use lookup::{first_bad_line, has_eof, value_of};
 pub use number::read_number;
 pub use pair::Pair;
+pub use split::{first_line, split_once};
 pub use writer::KvWriter;
 
 #[cfg(test)]

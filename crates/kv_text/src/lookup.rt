@@ -1,14 +1,16 @@
 // What a text says as a whole.
-ghost use Rattle.std.specs.Prelude.{◌≡◌};
+ghost use Rattle.std.specs.Prelude.{◌≡◌, IfSome};
 ghost use Rattle.std.specs.Option.{option_map};
-ghost use Rattle.kv_text.specs.Text.{items, pairs, has_eof};
+ghost use Rattle.kv_text.specs.Text.{IsOneLine, items, pairs, has_eof};
 ghost use Rattle.kv_text.specs.Lookup.{value_of, first_bad_line};
 
 use crate::lines::Lines;
 
 /// The value of a key, lent from the text: the value of the last pair that has the key.
+/// It has no line feed.
 pub fn value_of<'a>(text: &'a [u8], key: &[u8]) -> Option<&'a [u8]>
-    ensures { option_map (λ value. value.now) result ≡ value_of key.now (pairs text.now) }
+    ensures value { option_map (λ value. value.now) result ≡ value_of key.now (pairs text.now) }
+    ensures one_line { IfSome result (λ value. IsOneLine value.now) }
 {
     let mut found = None;
     for item in Lines::new(text) {

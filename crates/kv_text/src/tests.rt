@@ -1,4 +1,5 @@
 use super::*;
+use sd_names::Id;
 use std::alloc::{AllocError, Global};
 
 // What the lines of a text are, as text: a pair as `<key|value>`, a line without `=` as `!` and its number,
@@ -87,4 +88,39 @@ fn numbers(rt: HostRuntime) {
     for (value, want) in cases {
         assert_eq!(rt; read_number(value.as_bytes()), want);
     }
+}
+
+// The identifier of RFC 9562, section 4, in either case, and other texts.
+#[test]
+fn identifiers(rt: HostRuntime) {
+    let id = Id([
+        0xf8, 0x1d, 0x4f, 0xae, 0x7d, 0xec, 0x11, 0xd0, 0xa7, 0x65, 0, 0xa0, 0xc9, 0x1e, 0x6b, 0xf6,
+    ]);
+    let cases = [
+        ("f81d4fae-7dec-11d0-a765-00a0c91e6bf6", true),
+        ("F81D4FAE-7DEC-11D0-A765-00A0C91E6BF6", true),
+        ("f81d4fae-7dec-11d0-a765-00a0c91e6bf7", false),
+        ("f81d4fae7dec11d0a76500a0c91e6bf6", false),
+        ("", false),
+    ];
+    for (value, own) in cases {
+        assert_eq!(rt; read_own_id(id, value.as_bytes()).is_some(), own);
+    }
+}
+
+#[test]
+fn first_lines(rt: HostRuntime) {
+    let cases = [
+        ("A=1\nB=2\n", "A=1", "B=2\n"),
+        ("A=1", "A=1", ""),
+        ("\n\n", "", "\n"),
+        ("", "", ""),
+    ];
+    for (text, line, behind) in cases {
+        let found = first_line(text.as_bytes());
+        assert!(rt; found.0 == line.as_bytes());
+        assert!(rt; found.1 == behind.as_bytes());
+    }
+    assert!(rt; split_once(b"a,b,c", b',') == Some((b"a".as_slice(), b"b,c".as_slice())));
+    assert!(rt; split_once(b"a,b,c", b';').is_none());
 }

@@ -1,2 +1,2 @@
-pub mod IdValue
 pub mod Joined
+pub mod Back

@@ -3,3 +3,4 @@ pub mod Read
 pub mod Gives
 pub mod Shown
 pub mod Text
+pub mod Valid

@@ -4,7 +4,9 @@
 use Rattle.std.specs.Prelude.{ℕ, Bool, true, false, ◌==◌, List, [], ◌∷◌, Option, Some, None, Result, Ok, Err, if◌then◌else◌, codes, is_none, find}
 use Rattle.kv_text.specs.Text.{KeyValue, items, pairs, has_eof}
 use Rattle.kv_text.specs.Lookup.{value_of, first_bad_line}
+use Rattle.kv_text.specs.Ids.{this_id}
 use Rattle.kv_text.specs.Number.{number_of}
+use Rattle.sd_names.specs.Id.{id_of}
 use Rattle.sd_names.specs.Key.{key_name}
 use Rattle.sd_names.specs.declared.id.Id.{Id}
 use Rattle.sd_names.specs.declared.fault.Key.{Key}
@@ -16,7 +18,7 @@ use Rattle.sd_names.specs.declared.kinds.Format.{Format}
 use Rattle.sd_names.specs.declared.kinds.Legality.{Legality}
 use Rattle.sd_names.specs.declared.kinds.VolType.{VolType}
 use Rattle.volume_meta.specs.declared.record.VolumeRecord.{VolumeRecord}
-use Rattle.volume_meta.specs.Values.{capacity_of, size_of, generation_of, description_of, disk_type_of, id_of, this_id, format_of, legality_of, kind_of, voltype_of, merged_of}
+use Rattle.volume_meta.specs.Values.{capacity_of, size_of, generation_of, description_of, disk_type_of, format_of, legality_of, kind_of, voltype_of, merged_of}
 
 infixl 10 ◌>>=◌
 abbrev pub ◌>>=◌ : {A B : Type 0} → Result A VolumeFault → (A → Result B VolumeFault) → Result B VolumeFault

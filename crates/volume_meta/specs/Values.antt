@@ -1,9 +1,6 @@
 -- What the value of each key of a volume's text means.
 use Rattle.std.specs.Prelude.{ℕ, ◌*◌, ◌%◌, ◌^◌, Bool, true, ◌==◌, ◌&&◌, List, length, nat_le, Option, Some, None, if◌then◌else◌, codes, option_and_then}
-use Rattle.std.specs.Option.{option_map}
 use Rattle.std.specs.Str.{bytes_eq}
-use Rattle.uuid.specs.Text.{parsed_hyphenated}
-use Rattle.sd_names.specs.declared.id.Id.{Id}
 use Rattle.sd_names.specs.declared.kinds.AllocKind.{AllocKind}
 use Rattle.sd_names.specs.declared.kinds.AllocKind.TheVariants.{Sparse, Preallocated}
 use Rattle.sd_names.specs.declared.kinds.Format.{Format}
@@ -35,15 +32,6 @@ description_of value = if nat_le (length value) 4096 then Some value else None
 -- DISKTYPE: 1 to 16 bytes
 unfoldable pub disk_type_of : List ℕ → Option (List ℕ)
 disk_type_of value = if nat_le 1 (length value) && nat_le (length value) 16 then Some value else None
-
--- an identifier: the hyphenated text of RFC 9562, section 4, in either case
-unfoldable pub id_of : List ℕ → Option Id
-id_of value = option_map (λ bytes. record { 0 = bytes }) (parsed_hyphenated value)
-
--- this identifier and no other
-unfoldable pub this_id : Id → List ℕ → Option Id
-this_id id value =
-    option_and_then (λ found. if bytes_eq found.0 id.0 then Some id else None) (id_of value)
 
 unfoldable pub format_of : List ℕ → Option Format
 format_of value =

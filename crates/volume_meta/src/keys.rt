@@ -2,14 +2,16 @@
 ghost use Rattle.std.specs.Prelude.{◌≡◌, ◌≤◌, [], length, IfOk, codes, false};
 ghost use Rattle.std.specs.Option.{option_map};
 ghost use Rattle.kv_text.specs.Text.{pairs};
+ghost use Rattle.kv_text.specs.Ids.{this_id};
 ghost use Rattle.kv_text.specs.Number.{number_of};
+ghost use Rattle.sd_names.specs.Id.{id_of};
 ghost use Rattle.sd_names.specs.declared.fault.Key.TheVariants as key;
-ghost use Rattle.volume_meta.specs.Values.{generation_of, description_of, disk_type_of, id_of, this_id, format_of, legality_of, kind_of, voltype_of, merged_of};
+ghost use Rattle.volume_meta.specs.Values.{generation_of, description_of, disk_type_of, format_of, legality_of, kind_of, voltype_of, merged_of};
 ghost use Rattle.volume_meta.specs.Read.{value, needed, optional, cap_in, size_in, first_missing};
 ghost use Rattle.volume_meta.specs.Gives.{bytes_of};
 
 use crate::values;
-use kv_text::{read_number, value_of};
+use kv_text::{read_number, read_own_id, value_of};
 use sd_names::{AllocKind, Format, Id, Key, Legality, VolType, VolumeFault};
 
 // The value of a key.
@@ -84,7 +86,7 @@ pub fn domain(sd: Id, text: &[u8]) -> Result<Id, VolumeFault>
     ensures { result ≡ needed key.Domain (this_id sd) (value key.Domain (pairs text.now)) }
 {
     match value(text, Key::Domain) {
-        Some(value) => values::this_id(sd, value).ok_or(VolumeFault::BadValue(Key::Domain)),
+        Some(value) => read_own_id(sd, value).ok_or(VolumeFault::BadValue(Key::Domain)),
         None => Err(VolumeFault::MissingKey(Key::Domain)),
     }
 }
@@ -111,7 +113,7 @@ pub fn image(image: Id, text: &[u8]) -> Result<Id, VolumeFault>
     ensures { result ≡ needed key.Image (this_id image) (value key.Image (pairs text.now)) }
 {
     match value(text, Key::Image) {
-        Some(value) => values::this_id(image, value).ok_or(VolumeFault::BadValue(Key::Image)),
+        Some(value) => read_own_id(image, value).ok_or(VolumeFault::BadValue(Key::Image)),
         None => Err(VolumeFault::MissingKey(Key::Image)),
     }
 }
@@ -138,7 +140,7 @@ pub fn parent(text: &[u8]) -> Result<Id, VolumeFault>
     ensures { result ≡ needed key.Puuid id_of (value key.Puuid (pairs text.now)) }
 {
     match value(text, Key::Puuid) {
-        Some(value) => values::id(value).ok_or(VolumeFault::BadValue(Key::Puuid)),
+        Some(value) => Id::read(value).ok_or(VolumeFault::BadValue(Key::Puuid)),
         None => Err(VolumeFault::MissingKey(Key::Puuid)),
     }
 }

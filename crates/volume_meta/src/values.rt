@@ -1,10 +1,10 @@
 // What the values of a volume's keys mean.
 ghost use Rattle.std.specs.Prelude.{◌≡◌, ◌≤◌, length, IfSome};
 ghost use Rattle.std.specs.Option.{option_map};
-ghost use Rattle.volume_meta.specs.Values.{capacity_of, size_of, generation_of, description_of, disk_type_of, id_of, this_id, format_of, legality_of, kind_of, voltype_of, merged_of};
+ghost use Rattle.volume_meta.specs.Values.{capacity_of, size_of, generation_of, description_of, disk_type_of, format_of, legality_of, kind_of, voltype_of, merged_of};
 
 use kv_text::read_number;
-use sd_names::{AllocKind, Format, Id, Legality, VolType};
+use sd_names::{AllocKind, Format, Legality, VolType};
 
 // The most bytes of a capacity, 1 TiB.
 const MOST_CAPACITY: u64 = 1 << 40;
@@ -70,25 +70,6 @@ pub fn disk_type(value: &[u8]) -> Option<&[u8]>
     } else {
         None
     }
-}
-
-#[tactic(auto, unfolding(crate::specs::Values::id_of))]
-pub fn id(value: &[u8]) -> Option<Id>
-    ensures { result ≡ id_of value.now }
-{
-    let found = Id::read(value);
-    if let Some(id) = &found {
-        id.has_sixteen_bytes();
-    }
-    found
-}
-
-#[tactic(auto, unfolding(crate::specs::Values::this_id))]
-pub fn this_id(id: Id, value: &[u8]) -> Option<Id>
-    ensures { result ≡ this_id id value.now }
-{
-    let found = self::id(value)?;
-    if found == id { Some(id) } else { None }
 }
 
 #[tactic(auto, unfolding(crate::specs::Values::format_of))]

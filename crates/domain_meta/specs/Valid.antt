@@ -1,0 +1,25 @@
+-- Records whose fields are in their ranges.
+use Rattle.std.specs.Prelude.{◌≡◌, ◌≤◌, ◌<◌, ◌^◌, List, [], length, true, All}
+use Rattle.kv_text.specs.Text.{IsOneLine}
+use Rattle.sd_names.specs.Id.{IsIdBytes}
+use Rattle.sd_names.specs.declared.id.Id.{Id}
+use Rattle.sd_names.specs.declared.kinds.Role.{Role}
+use Rattle.sd_names.specs.declared.kinds.Role.TheVariants.{Master, Regular}
+use Rattle.domain_meta.specs.Values.{is_rising, version_of_role}
+use Rattle.domain_meta.specs.declared.record.DomainRecord.{DomainRecord}
+
+-- a master lists one to four domains that rise, and any other domain none
+abbrev pub Lists : Role → List Id → Type 0
+Lists Master ids = (1 ≤ length ids) × (length ids ≤ 4) × (is_rising ids ≡ true)
+Lists Regular ids = ids ≡ []
+
+-- each field is in its range, and the description has no line feed
+pub record IsValid (r : DomainRecord) : Type 0 where
+  pub version : r.version < 2 ^ 64
+  pub master_version : r.master_version ≡ version_of_role r.role
+  pub lists : Lists r.role r.domains
+  pub domains : All (λ id. IsIdBytes id.0) r.domains
+  pub sduuid : IsIdBytes r.sduuid.0
+  pub pool : IsIdBytes r.pool.0
+  pub description : length r.description ≤ 4096
+  pub one_line : IsOneLine r.description
