@@ -1,22 +1,12 @@
 -- The fields of a message and the bytes of its slot.
 use Rattle.std.proofs.Common.{◌≡◌, ℕ, ◌+◌, ◌-◌, ◌<◌, List, [], ◌∷◌, ◌++◌, length, take, drop, replicate, refl, sym, ap, ◌∙◌, arith, ◌^◌, append_assoc, length-append, true, le-leb, Some, Option, nat_le, slice_index, codes}
 use Rattle.std.proofs.lemmas.Slice.Eq.{bytes_eq-Decides}
-use Rattle.std.proofs.lemmas.List.{take_at, drop_at, drop-replicate, append-nil}
-use borrow.Rule.Slice.PartMut.{put_mid}
+use Rattle.std.proofs.lemmas.List.{append-nil}
+use Rattle.byte_parts.proofs.Parts.{middle}
 use Rattle.byteorder.specs.Endian.{big_bytes, big_number}
 use Rattle.byteorder.specs.Numbers.{big_number-reads_back}
 use Rattle.mail_box.specs.Spelling.{message_bytes, IsMessage, fields_of, message_of}
 use Rattle.mail_box.specs.declared.message.Message.{Message}
-
-pub put_mid-front : (front part : List ℕ) (at k left zeros : ℕ) → length front ≡ at → k ≡ length part → zeros ≡ length part + left → put_mid at k (front ++ replicate zeros 0) part ≡ front ++ part ++ replicate left 0
-put_mid-front front part at k left zeros h same all =
-    let e : zeros - k ≡ left = omega arith in
-    rw (take_at front (replicate zeros 0) at h, drop_at front (replicate zeros 0) at h, drop-replicate {X = ℕ} k zeros 0, e) (sym (append_assoc front part (replicate left 0)))
-
--- a part between others
-middle : (front part rest : List ℕ) (n k : ℕ) → length front ≡ n → length part ≡ k → take k (drop n (front ++ part ++ rest)) ≡ part
-middle front part rest n k h g =
-    rw (append_assoc front part rest, drop_at front (part ++ rest) n h) (take_at part rest k g)
 
 middle-two : (front part a b : List ℕ) (n k : ℕ) → length front ≡ n → length part ≡ k → take k (drop n (front ++ part ++ a ++ b)) ≡ part
 middle-two front part a b n k h g =

@@ -1,4 +1,3 @@
 pub mod Slots
 pub mod Lending
 pub mod Spelling
-pub mod Puts

@@ -1,9 +1,9 @@
 // A message, and the bytes that spell it.
 ghost use Rattle.std.specs.Prelude.{◌≡◌, ◌≤◌, ◌+◌, ◌++◌, ℕ, List, length, take, drop, replicate, IfSome, Some};
 ghost use Rattle.mail_box.specs.Spelling.{message_bytes, IsMessage, fields_of, message_of};
-ghost use Rattle.mail_box.specs.Puts.{Puts};
 ghost use Rattle.mail_box.specs.declared.message.Message.{Message as AnyMessage};
 
+use byte_parts::put;
 use byteorder::{BigEndian, ByteOrder};
 use sd_names::Id;
 
@@ -18,14 +18,6 @@ pub struct Message {
     pub length: u64,
     /// What the one who asked calls this request.
     pub mark: u32,
-}
-
-// Writes a part of a slot, of which nothing is written from `at` on.
-fn put(slot: &mut [u8; 64], at: usize, part: &[u8])
-    requires { at + length part.now ≤ 64 }
-    ensures { Puts at part.now slot.old slot.new }
-{
-    slot[at..at + part.len()].copy_from_slice(part);
 }
 
 // The identifier that stands at this place of a slot.

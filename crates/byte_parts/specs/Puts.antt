@@ -1,4 +1,4 @@
--- A part that is written into a slot of which only the front is written.
+-- A part that is written into a block of which only the front is written.
 use Rattle.std.specs.Prelude.{◌≡◌, ℕ, ◌+◌, List, ◌++◌, length, replicate}
 
 -- where zeros stand from `at` on, the part stands there afterwards, and zeros behind it

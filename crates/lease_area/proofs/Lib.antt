@@ -1,0 +1,5 @@
+pub mod Fields
+pub mod TakeSteps
+pub mod Noting
+pub mod First
+pub mod Surviving

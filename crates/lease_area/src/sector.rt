@@ -1,0 +1,169 @@
+// A lease sector, and the bytes that spell it.
+ghost use Rattle.std.specs.Prelude.{◌≡◌, ◌+◌, ◌≤◌, ◌<◌, ◌^◌, length, take, drop, IfSome, Some};
+ghost use Rattle.lease_area.specs.Sector.{IsRecord, IsSector, fields_of, is_owner, kind_code, kind_of, record_bytes, record_in, record_with, sector_bytes, sector_in};
+ghost use Rattle.lease_area.specs.declared.sector.Sector.{Sector as AnySector};
+
+use byte_parts::put;
+use byteorder::{BigEndian, ByteOrder};
+use sd_names::Id;
+
+/// What a lease is held for.
+#[derive(Clone, Copy, Debug, PartialEq, Eq)]
+pub enum Kind {
+    /// Nobody holds it.
+    Free,
+    /// A guest runs on the image. In sector 0: the host is the manager of the pool.
+    Guest,
+    /// The manager of the pool works on the image.
+    Task,
+}
+
+/// A lease.
+#[derive(Clone, Copy, Debug, PartialEq, Eq)]
+pub struct LeaseRecord {
+    pub kind: Kind,
+    /// The number of the host that holds it, 1 to 250; 0 exactly where it is free.
+    pub owner: u8,
+    /// How often it was taken, below 2^63.
+    pub version: u64,
+    /// Whose lease it is; zeros in sector 0.
+    pub image: Id,
+}
+
+/// What a sector of the leases file holds.
+#[derive(Clone, Copy, Debug, PartialEq, Eq)]
+pub enum Sector {
+    /// Zeros: no image has it.
+    Empty,
+    Lease(LeaseRecord),
+}
+
+/// Lease versions are below this number.
+const VERSIONS: u64 = 1 << 63;
+
+// The kind of a code.
+fn kind_of(code: u8) -> Option<Kind>
+    ensures { result ≡ kind_of code }
+{
+    if code == 0 {
+        Some(Kind::Free)
+    } else if code == 1 {
+        Some(Kind::Guest)
+    } else if code == 2 {
+        Some(Kind::Task)
+    } else {
+        None
+    }
+}
+
+// The code of a kind.
+fn code_of(kind: Kind) -> u8
+    ensures { result ≡ kind_code kind }
+{
+    match kind {
+        Kind::Free => 0,
+        Kind::Guest => 1,
+        Kind::Task => 2,
+    }
+}
+
+// Whether a kind may have an owner.
+fn is_owner(kind: Kind, owner: u8) -> bool
+    ensures { result ≡ is_owner kind owner }
+{
+    match kind {
+        Kind::Free => owner == 0,
+        Kind::Guest | Kind::Task => 1 <= owner && owner <= 250,
+    }
+}
+
+// What stands at the places of a lease's fields.
+fn fields(bytes: &[u8; 512], kind: Kind) -> LeaseRecord
+    ensures { result ≡ fields_of bytes.now kind }
+{
+    let mut image = [0; 16];
+    image.copy_from_slice(&bytes[16..32]);
+    LeaseRecord {
+        kind,
+        owner: bytes[5],
+        version: BigEndian::read_u64(&bytes[8..16]),
+        image: Id(image),
+    }
+}
+
+// The lease of a kind whose bytes these are.
+fn record_with(bytes: &[u8; 512], kind: Kind) -> Option<LeaseRecord>
+    ensures found { IfSome result (λ r. IsRecord r × (bytes.now ≡ record_bytes r)) }
+    ensures exact { result ≡ record_with bytes.now (Some kind) }
+{
+    let record = fields(bytes, kind);
+    record.image.has_sixteen_bytes();
+    if is_owner(kind, record.owner) && record.version < VERSIONS && record.write() == *bytes {
+        Some(record)
+    } else {
+        None
+    }
+}
+
+// The lease whose bytes these are.
+fn record_in(bytes: &[u8; 512]) -> Option<LeaseRecord>
+    ensures found { IfSome result (λ r. IsRecord r × (bytes.now ≡ record_bytes r)) }
+    ensures exact { result ≡ record_in bytes.now }
+{
+    match kind_of(bytes[4]) {
+        Some(kind) => record_with(bytes, kind),
+        None => None,
+    }
+}
+
+// The sector whose bytes these are.
+fn sector_in(bytes: &[u8; 512]) -> Option<Sector>
+    ensures found { IfSome result (λ s. IsSector s × (bytes.now ≡ sector_bytes s)) }
+    ensures exact { result ≡ sector_in bytes.now }
+{
+    if *bytes == [0; 512] {
+        return Some(Sector::Empty);
+    }
+    match record_in(bytes) {
+        Some(record) => Some(Sector::Lease(record)),
+        None => None,
+    }
+}
+
+impl Sector {
+    /// The sector that these bytes spell, if they are those of one and no others.
+    pub fn read(bytes: &[u8; 512]) -> Option<Sector>
+        // What is read is written so.
+        ensures found { IfSome result (λ s. IsSector s × (bytes.now ≡ sector_bytes s)) }
+        // What is written so is read.
+        ensures only { (s : AnySector) → IsSector s → bytes.now ≡ sector_bytes s → result ≡ Some s }
+        ensures exact { result ≡ sector_in bytes.now }
+    {
+        sector_in(bytes)
+    }
+
+    /// The bytes of the sector: zeros where it is empty, else `LEAS`, the kind (0 free, 1 guest, 2 task), the owner, the
+    /// version from byte 8 on and the image from byte 16 on; all other bytes are zeros.
+    pub fn write(&self) -> [u8; 512]
+        ensures { result ≡ sector_bytes self.now }
+    {
+        match self {
+            Sector::Empty => [0; 512],
+            Sector::Lease(record) => record.write(),
+        }
+    }
+}
+
+impl LeaseRecord {
+    // The bytes of a lease.
+    fn write(&self) -> [u8; 512]
+        ensures { result ≡ record_bytes self.now }
+    {
+        let mut bytes = [0; 512];
+        put(&mut bytes, 0, b"LEAS");
+        put(&mut bytes, 4, &[code_of(self.kind), self.owner, 0, 0]);
+        put(&mut bytes, 8, &self.version.to_be_bytes());
+        put(&mut bytes, 16, &self.image.0);
+        bytes
+    }
+}
