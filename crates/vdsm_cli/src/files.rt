@@ -1,9 +1,11 @@
-// What the calls of a folder's disk do with the files of the system, whatever it is that keeps them.
-ghost use Rattle.std.specs.Prelude.{true, false, ◌≡◌, ◌≢◌, ◌-◌, ◌^◌, ◌<◌, ◌≤◌, min, length, IfOk, IfErr, Ok, IsOk, ◌↔◌, IfSome, Some};
+// What the calls of a folder's disk do with a file of the system.
+ghost use Rattle.std.specs.Prelude.{true, false, ◌≡◌, ◌≢◌, ◌+◌, ◌-◌, ◌*◌, ◌^◌, ◌<◌, ◌≤◌, min, length, IfOk, IfErr, Ok, IsOk, IsSome, ◌↔◌, IfSome, Some};
 ghost use Rattle.std.specs.IoError.{error_kind};
+ghost use Rattle.vdsm_cli.specs.Answers.{IsNoFile, IsNoFileOrExists, IsNoFileOrOutside};
 ghost use Rattle.vdsm_cli.specs.Length.{padded};
 
-use shared_disk::DiskAnswer;
+use crate::flushed::flush;
+use shared_disk::{DiskAnswer, Exchanged};
 use std::fs::{File, Files, OpenFile, OpenOptions};
 use std::io::{Error, ErrorKind, Read, Seek, SeekFrom, Write};
 
@@ -21,8 +23,8 @@ pub(crate) fn answer_for(error: Error) -> DiskAnswer
     }
 }
 
-// The answer for an error of the system where something was to be made: `Exists` where it is there already.
-fn answer_for_new(error: Error, is_there: bool) -> DiskAnswer
+/// The answer for an error of the system where something was to be made: `Exists` where it is there already.
+pub(crate) fn answer_for_new(error: Error, is_there: bool) -> DiskAnswer
     ensures absent { error_kind error ≡ ErrorKind.NotFound → result ≡ DiskAnswer.NoFile }
     ensures exists { error_kind error ≡ ErrorKind.AlreadyExists → is_there ≡ true → result ≡ DiskAnswer.Exists }
     ensures other { error_kind error ≡ ErrorKind.AlreadyExists → is_there ≡ false → result ≡ DiskAnswer.Failed }
@@ -55,7 +57,9 @@ pub(crate) fn count_before(end: u64, at: u64, most: usize) -> usize
 }
 
 // How many bytes an open file has. Anything else than a file at its path is a fault.
-fn stored_length<F: OpenFile>(file: &F) -> Result<u64, DiskAnswer> {
+fn stored_length<F: OpenFile>(file: &F) -> Result<u64, DiskAnswer>
+    ensures fault { IfErr result (λ answer. answer ≡ DiskAnswer.Failed) }
+{
     match file.metadata() {
         Ok(metadata) if metadata.is_file() => Ok(metadata.len()),
         _ => Err(DiskAnswer::Failed),
@@ -63,7 +67,9 @@ fn stored_length<F: OpenFile>(file: &F) -> Result<u64, DiskAnswer> {
 }
 
 // Reads bytes that a file has. For none it asks nothing of the file.
-fn read_stored<F: Read + Seek>(file: &mut F, at: u64, into: &mut [u8]) -> Result<(), DiskAnswer> {
+fn read_stored<F: Read + Seek>(file: &mut F, at: u64, into: &mut [u8]) -> Result<(), DiskAnswer>
+    ensures fault { IfErr result (λ answer. answer ≡ DiskAnswer.Failed) }
+{
     if into.is_empty() {
         return Ok(());
     }
@@ -81,6 +87,7 @@ pub(crate) fn read<R: Files>(
     into: &mut [u8],
 ) -> Result<usize, DiskAnswer>
     ensures bound { IfOk result (λ count. count ≤ length into.old) }
+    ensures answers { IfErr result IsNoFile }
 {
     let mut file = File::open(rt, path).map_err(answer_for)?;
     let stored = stored_length(&file)?;
@@ -92,7 +99,9 @@ pub(crate) fn read<R: Files>(
 }
 
 /// Writes from `at` on, inside the length that is shown of the file.
-pub(crate) fn write<R: Files>(rt: &R, path: &str, at: u64, bytes: &[u8]) -> Result<(), DiskAnswer> {
+pub(crate) fn write<R: Files>(rt: &R, path: &str, at: u64, bytes: &[u8]) -> Result<(), DiskAnswer>
+    ensures answers { IfErr result IsNoFileOrOutside }
+{
     let mut file = OpenOptions::new()
         .write(true)
         .open(rt, path)
@@ -101,6 +110,13 @@ pub(crate) fn write<R: Files>(rt: &R, path: &str, at: u64, bytes: &[u8]) -> Resu
     if count_before(shown, at, bytes.len()) < bytes.len() {
         return Err(DiskAnswer::OutOfFile);
     }
+    put(&mut file, at, bytes)
+}
+
+// Writes bytes at an offset of an open file.
+fn put<F: Write + Seek>(file: &mut F, at: u64, bytes: &[u8]) -> Result<(), DiskAnswer>
+    ensures { IfErr result (λ answer. answer ≡ DiskAnswer.Failed) }
+{
     if file.seek(SeekFrom::Start(at)).is_err() || file.write_all(bytes).is_err() {
         return Err(DiskAnswer::Failed);
     }
@@ -108,33 +124,21 @@ pub(crate) fn write<R: Files>(rt: &R, path: &str, at: u64, bytes: &[u8]) -> Resu
 }
 
 /// Flushes a file to the medium.
-pub(crate) fn sync<R: Files>(rt: &R, path: &str) -> Result<(), DiskAnswer> {
+pub(crate) fn sync<R: Files>(rt: &R, path: &str) -> Result<(), DiskAnswer>
+    ensures answers { IfErr result IsNoFile }
+{
     let file = OpenOptions::new()
         .write(true)
         .open(rt, path)
         .map_err(answer_for)?;
-    match file.sync_all() {
-        Ok(()) => Ok(()),
-        Err(_) => Err(DiskAnswer::Failed),
-    }
-}
-
-/// Flushes to the medium what was made in a folder.
-pub(crate) fn sync_dir<R: Files>(rt: &R, path: &str) -> Result<(), DiskAnswer>
-    ensures { IfErr result (λ answer. answer ≡ DiskAnswer.Failed) }
-{
-    match File::open(rt, path) {
-        Ok(dir) => match dir.sync_all() {
-            Ok(()) => Ok(()),
-            Err(_) => Err(DiskAnswer::Failed),
-        },
-        Err(_) => Err(DiskAnswer::Failed),
-    }
+    flush(&file)
 }
 
 /// Makes a sparse file of zeros, and flushes its length. Where that fails the file is taken away again, so that none
 /// of another length stays.
-pub(crate) fn create<R: Files>(rt: &R, path: &str, length: u64) -> Result<(), DiskAnswer> {
+pub(crate) fn create<R: Files>(rt: &R, path: &str, length: u64) -> Result<(), DiskAnswer>
+    ensures answers { IfErr result IsNoFileOrExists }
+{
     let file = OpenOptions::new()
         .write(true)
         .create_new(true)
@@ -156,7 +160,9 @@ fn is_file<R: Files>(rt: &R, path: &str) -> bool {
 }
 
 /// The length that is shown of a file.
-pub(crate) fn length<R: Files>(rt: &R, path: &str) -> Result<u64, DiskAnswer> {
+pub(crate) fn length<R: Files>(rt: &R, path: &str) -> Result<u64, DiskAnswer>
+    ensures answers { IfErr result IsNoFile }
+{
     let metadata = rt.metadata(path).map_err(answer_for)?;
     if !metadata.is_file() {
         return Err(DiskAnswer::Failed);
@@ -164,18 +170,66 @@ pub(crate) fn length<R: Files>(rt: &R, path: &str) -> Result<u64, DiskAnswer> {
     shown_length(metadata.len())
 }
 
-/// Makes a folder.
-pub(crate) fn make_dir<R: Files>(rt: &R, path: &str) -> Result<(), DiskAnswer> {
-    match rt.create_dir(path) {
-        Ok(()) => Ok(()),
-        Err(error) => Err(answer_for_new(error, is_dir(rt, path))),
+/// Raises a file's length with zeros where it has fewer bytes, and flushes it.
+pub(crate) fn grow<R: Files>(rt: &R, path: &str, length: u64) -> Result<(), DiskAnswer>
+    ensures answers { IfErr result IsNoFile }
+{
+    let file = OpenOptions::new()
+        .write(true)
+        .open(rt, path)
+        .map_err(answer_for)?;
+    if stored_length(&file)? < length && file.set_len(length).is_err() {
+        return Err(DiskAnswer::Failed);
+    }
+    // A call that failed may have raised the length and not flushed it.
+    flush(&file)
+}
+
+// The offset of a sector that lies inside a length.
+fn offset_inside(shown: u64, sector: u64) -> Option<u64>
+    ensures inside { IsSome result ↔ (sector * 512 + 512 ≤ shown) }
+    ensures offset { IfSome result (λ at. at ≡ sector * 512) }
+{
+    if sector < shown / SECTOR {
+        Some(sector * SECTOR)
+    } else {
+        None
     }
 }
 
-// Whether a folder stands at the path.
-fn is_dir<R: Files>(rt: &R, path: &str) -> bool {
-    match rt.metadata(path) {
-        Ok(metadata) => metadata.is_dir(),
-        Err(_) => false,
+/// Puts `next` into a sector where it holds `expect`, and flushes the file; else answers what it holds. The file is
+/// locked meanwhile, and a lock that isn't to be had at once is a fault.
+pub(crate) fn exchange<R: Files<File = File>>(
+    rt: &R,
+    path: &str,
+    sector: u64,
+    expect: &[u8; 512],
+    next: &[u8; 512],
+) -> Result<Exchanged, DiskAnswer>
+    ensures differs { IfOk result (λ answer. answer ≢ Exchanged.Found expect.now) }
+    ensures answers { IfErr result IsNoFileOrOutside }
+{
+    let mut file = OpenOptions::new()
+        .read(true)
+        .write(true)
+        .open(rt, path)
+        .map_err(answer_for)?;
+    // The lock goes with the file, when it is closed.
+    if file.try_lock().is_err() {
+        return Err(DiskAnswer::Failed);
     }
+    let stored = stored_length(&file)?;
+    let at = match offset_inside(shown_length(stored)?, sector) {
+        Some(at) => at,
+        None => return Err(DiskAnswer::OutOfFile),
+    };
+    let mut found = [0; 512];
+    let kept = count_before(stored, at, 512);
+    read_stored(&mut file, at, &mut found[..kept])?;
+    if found != *expect {
+        return Ok(Exchanged::Found(found));
+    }
+    put(&mut file, at, next)?;
+    flush(&file)?;
+    Ok(Exchanged::Done)
 }

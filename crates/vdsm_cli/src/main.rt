@@ -2,7 +2,14 @@
 #![tactic(auto)]
 
 mod files;
+mod flushed;
+mod folder;
 mod folder_disk;
+#[cfg(test)]
+mod folder_tests;
+mod layout;
+mod listing;
+mod names;
 mod std_stream;
 #[cfg(test)]
 mod tests;

@@ -12,9 +12,9 @@ use std::{fs, io};
 // The shared folder of the test, in the folder that it runs in.
 const ROOT: &str = "shared_folder";
 
-const SD: Id = Id([0x11; 16]);
+pub(crate) const SD: Id = Id([0x11; 16]);
 
-const OTHER: Id = Id([0x22; 16]);
+pub(crate) const OTHER: Id = Id([0x22; 16]);
 
 const DIR: Dir = Dir::Images(SD);
 
@@ -112,7 +112,14 @@ fn other_things_at_a_path_are_faults(rt: HostRuntime) -> Result<(), Fail> {
     assert!(rt; disk.write_at(host, place, 0, &sector) == Err(DiskAnswer::Failed));
     assert!(rt; disk.sync(host, place) == Err(DiskAnswer::Failed));
     assert!(rt; disk.make_dir(host, Dir::Domain(OTHER)) == Err(DiskAnswer::Failed));
-    assert!(rt; disk.fault_count() == 6);
+    assert!(rt; disk.grow(host, place, 512) == Err(DiskAnswer::Failed));
+    assert!(rt; disk.rename(host, place, Name::Inbox) == Err(DiskAnswer::Failed));
+    assert!(rt; disk.remove(host, place) == Err(DiskAnswer::Failed));
+    assert!(rt; disk.exchange(host, place, 0, &sector, &sector) == Err(DiskAnswer::Failed));
+    assert!(rt; disk.remove_dir(host, Dir::Domain(OTHER)) == Err(DiskAnswer::Failed));
+    assert!(rt; disk.next_name(host, Dir::Domain(OTHER), None) == Err(DiskAnswer::Failed));
+    assert!(rt; disk.next_dir(host, Dir::Domain(OTHER), None) == Err(DiskAnswer::Failed));
+    assert!(rt; disk.fault_count() == 13);
     fs::remove_dir(&rt, "leases")?;
     fs::remove_file(&rt, "22222222-2222-2222-2222-222222222222")?;
     Ok(())
