@@ -1,10 +1,9 @@
 -- Which name or folder has a text, and that there is only one.
-use Rattle.std.proofs.Common.{◌≡◌, ◌≢◌, ℕ, ◌+◌, ◌<◌, List, [], ◌∷◌, ◌++◌, length, length-append, take, drop, ◌==◌, if◌then◌else◌, codes, Option, Some, None, IfSome, IfNone, arith, append_assoc, refl, sym, ap, ◌∙◌}
+use Rattle.std.proofs.Common.{◌≡◌, ◌≢◌, ℕ, ◌+◌, List, [], ◌∷◌, ◌++◌, length, length-append, take, drop, ◌==◌, if◌then◌else◌, codes, Option, Some, None, IfSome, IfNone, append_assoc, refl, sym, ap, ◌∙◌}
 use Rattle.std.proofs.lemmas.List.{take_at, drop_at, append-nil, take-append-drop}
 use Rattle.std.specs.List.{IsSplitAt}
-use Rattle.shared_disk.specs.Calls.{parent_of}
 use Rattle.sd_names.specs.Id.{IsIdBytes, id_text}
-use Rattle.sd_names.specs.Place.{dir_path, name_text, name_rank}
+use Rattle.sd_names.specs.Place.{name_text, name_rank}
 use Rattle.sd_names.specs.declared.id.Id.{Id}
 use Rattle.sd_names.specs.declared.place.Dir.{Dir}
 use Rattle.sd_names.specs.declared.place.Dir.TheVariants.{Root, Domain, DomMd, Images, Image, Removed, Master, Tasks}
@@ -12,7 +11,7 @@ use Rattle.sd_names.specs.declared.place.Name.{Name}
 use Rattle.sd_names.specs.declared.place.Name.TheVariants.{Metadata, MetadataNew, Leases, Inbox, Outbox, Volume, Meta, MetaNew, MetaVolatile, VolumeLease, Task, TaskNew}
 use Rattle.sd_names.proofs.IdLemmas.{id_text-length}
 use Rattle.sd_names.proofs.PlaceLemmas.{dir_path-injective, name_text-injective}
-use Rattle.vdsm_cli.specs.Layout.{IsDomainFile, IsVolumeFile, IsTaskFile, HoldsName, IsNamed, IsFolderIn}
+use Rattle.vdsm_cli.specs.Layout.{IsDomainFile, IsVolumeFile, IsTaskFile, IsNamed, IsFolderIn}
 
 -- ---- the identifier that a text begins with
 

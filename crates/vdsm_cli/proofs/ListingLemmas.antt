@@ -1,5 +1,5 @@
 -- What a walk over a piece of a folder's names has seen.
-use Rattle.std.proofs.Common.{◌≡◌, ◌≢◌, ◌⊎◌, inl, inr, ℕ, zero, suc, ◌+◌, ◌-◌, ◌<◌, ◌≤◌, List, length, get_or, Bool, true, false, ◌==◌, Option, Some, None, Result, Ok, Err, IfOk, arith, ⊎_elim, refl, sym, ap, subst, ◌∙◌}
+use Rattle.std.proofs.Common.{◌≡◌, ◌≢◌, ◌⊎◌, inl, inr, ℕ, zero, suc, ◌+◌, ◌<◌, ◌≤◌, List, length, get_or, Bool, true, false, ◌==◌, Option, Some, None, arith, ⊎_elim, refl, ap, subst}
 use Rattle.std.proofs.lemmas.Bool.Decides.{nat_tests}
 use Rattle.std.specs.declared.cmp.Ordering.{Ordering}
 use Rattle.vdsm_cli.specs.Listing.{IsNameIn, name_in, IsAbove, AnswersAbove, IsAtMost, IsListed}

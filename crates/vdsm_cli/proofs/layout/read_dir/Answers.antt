@@ -1,4 +1,4 @@
-use Rattle.sd_names.specs.declared.place.Dir.TheVariants.{Root, Domain, Images, Master}
+use Rattle.sd_names.specs.declared.place.Dir.TheVariants.{Root, Domain, Images}
 use Rattle.vdsm_cli.proofs.LayoutLemmas.{found_dir}
 use Rattle.vdsm_cli.proofs.layout.read_dir.Goals as goal
 

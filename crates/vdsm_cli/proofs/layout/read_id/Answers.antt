@@ -1,4 +1,4 @@
-use Rattle.std.proofs.Common.{◌≡◌, ◌∙◌, sym, ap, refl, arith, Some}
+use Rattle.std.proofs.Common.{◌≡◌, ◌∙◌, sym, ap, arith, Some}
 use Rattle.std.specs.Cmp.Lexicographic.{same_text, other_text}
 use Rattle.sd_names.specs.Id.{id_text}
 use Rattle.sd_names.proofs.IdLemmas.{reads_itself}

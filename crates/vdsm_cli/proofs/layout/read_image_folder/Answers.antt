@@ -1,5 +1,4 @@
-use Rattle.std.proofs.Common.{◌≡◌, ◌∙◌, length, sym, ap, refl, arith}
-use Rattle.sd_names.specs.Id.{id_text}
+use Rattle.std.proofs.Common.{◌∙◌, length, ap, arith}
 use Rattle.sd_names.proofs.IdLemmas.{id_text-length}
 use Rattle.vdsm_cli.proofs.LayoutLemmas.{image_ids, removed_length, is_removed}
 use Rattle.vdsm_cli.proofs.layout.read_image_folder.Goals as goal

@@ -1,6 +1,5 @@
-use Rattle.std.proofs.Common.{◌≡◌, ◌≢◌, ◌∙◌, sym, refl, codes}
+use Rattle.std.proofs.Common.{◌∙◌, sym}
 use Rattle.std.specs.Cmp.Lexicographic.{same_text, other_text}
-use Rattle.vdsm_cli.specs.Layout.{IsFolderIn}
 use Rattle.vdsm_cli.proofs.LayoutLemmas.{is_tasks, no_master_folder}
 use Rattle.vdsm_cli.proofs.layout.read_master_folder.Goals as goal
 

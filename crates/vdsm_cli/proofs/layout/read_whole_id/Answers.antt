@@ -1,4 +1,4 @@
-use Rattle.std.proofs.Common.{◌≡◌, ◌∙◌, ℕ, List, [], length, ◌==◌, sym, ap}
+use Rattle.std.proofs.Common.{◌≡◌, ◌∙◌, ℕ, [], length, ◌==◌, sym, ap}
 use Rattle.std.proofs.lemmas.Bool.{false≢true}
 use Rattle.vdsm_cli.proofs.LayoutLemmas.{same_back, whole}
 use Rattle.vdsm_cli.proofs.layout.read_whole_id.Goals as goal

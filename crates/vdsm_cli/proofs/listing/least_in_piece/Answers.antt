@@ -1,5 +1,4 @@
-use Rattle.std.proofs.Common.{◌≡◌, ◌+◌, sym}
-use Rattle.vdsm_cli.proofs.ListingLemmas.{Seen, seen_plain, seen_name}
+use Rattle.vdsm_cli.proofs.ListingLemmas.{seen_plain, seen_name}
 use Rattle.vdsm_cli.proofs.listing.least_in_piece.Goals as goal
 use Rattle.vdsm_cli.proofs.listing.least_in_piece.Goals.{then-piece-end-eq0, else-piece-end-eq0}
 
