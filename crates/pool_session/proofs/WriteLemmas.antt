@@ -11,7 +11,7 @@ use Rattle.raw_layer.specs.declared.write.State.{State}
 use Rattle.raw_layer.specs.declared.write.State.TheVariants.{Begun, Fits, Written}
 use Rattle.pool_session.specs.declared.image.Image.{Image}
 use Rattle.pool_session.specs.Image.{HoldsFlat, SeenFlat, Mixed, laid, file_of}
-use Rattle.pool_session.proofs.OwnLemmas.{own_of-writes_hit, own_of-writes_miss, without-writes}
+use Rattle.shared_disk.proofs.OwnWrites.{own_of-writes_hit, own_of-writes_miss, without_writes}
 
 -- the file has the part written, and not yet synced, over these sectors
 pub record HoldsWrite (image : Image) (at : ℕ) (part : List ℕ) (flat : ℕ → List ℕ) (e : Content) : Type 0 where
@@ -134,7 +134,7 @@ module _ (image : Image) (flat : ℕ → List ℕ) (w : RawWrite) (at faults : �
         file = synced 1 (wrote (λ _. true) 1 (at / 512) part holds.file);
         there = ap e.file (sym place) ∙ sync_is.2.here ∙ (rw same refl);
         size = holds.size;
-        synced = without-writes (λ _. true) 1 (at / 512) part (sectors_in part) holds.file.loose ∙ ap (without 1) holds.synced;
+        synced = without_writes (λ _. true) 1 (at / 512) (sectors_in part) part holds.file.loose ∙ ap (without 1) holds.synced;
         sectors = λ k. seen_laid (at / 512) part holds.file k holds.synced ∙ laid_same (at / 512) part holds.file.stable flat k (holds.sectors k);
       }
 

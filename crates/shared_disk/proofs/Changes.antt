@@ -6,7 +6,7 @@ use Rattle.std.proofs.lemmas.Bool.Decides.{Decides-ltb}
 use Rattle.shared_disk.specs.Content.{File, Loose, zero_sector}
 use Rattle.shared_disk.specs.Changes.{IsChangedAt, apart_from, exchanged, raised}
 use Rattle.shared_disk.specs.Crash.{IsOutcomeSector, IsFileOutcome}
-use Rattle.shared_disk.proofs.Contents.{not_false}
+use Rattle.shared_disk.proofs.Places.{not_false}
 use Rattle.shared_disk.proofs.Outcomes.{contains_here, contains_more, cons_cases, nothing_in, no_host}
 
 -- a write of another sector among some

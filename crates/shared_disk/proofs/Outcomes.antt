@@ -8,16 +8,16 @@ use Rattle.sd_names.specs.declared.place.Place.{Place}
 use Rattle.shared_disk.specs.Content.{Content, File, Loose, own_of, without, unless_by, seen, writes, sector_of}
 use Rattle.shared_disk.specs.Calls.{IsPut, wrote, synced, sectors_in}
 use Rattle.shared_disk.specs.Places.{place_is}
-use Rattle.shared_disk.proofs.Contents.{place_is-apart}
+use Rattle.shared_disk.proofs.Places.{place_is-apart}
 use Rattle.shared_disk.proofs.Places.{place_is-same, place_is-itself}
 use Rattle.std.specs.Option.{option_map}
 use Rattle.shared_disk.specs.Crash.{IsSector, IsDownSector, IsDownFile, IsAlso, DownLeaves, AllDown, IsOutcomeSector, IsSettled, IsFileOutcome, IsOutcome, IsAlone, IsPieceSector, IsLaidOver, CoversFile, Covers, IsAllSettled, with_file, stable_file, stable_folder}
 
 -- lists of writes
-pub contains_here : (l : Loose) (ls : List Loose) → Contains (l ∷ ls) l
+pub contains_here : {X : Type 0} (l : X) (ls : List X) → Contains (l ∷ ls) l
 contains_here l ls = (0, omega arith, refl)
 
-pub contains_more : (l m : Loose) (ls : List Loose) → Contains ls m → Contains (l ∷ ls) m
+pub contains_more : {X : Type 0} (l m : X) (ls : List X) → Contains ls m → Contains (l ∷ ls) m
 contains_more l m ls h = (suc h.0, omega (arith, h.1), h.2)
 
 pub nothing_in : {X : Type 0} (l : X) → Contains [] l → ⊥
@@ -305,7 +305,7 @@ covers_step host hosts f g down c = record {
       elim (cons_cases host x hosts (c.fresh x (unless_some host x f.fresh was))) [ inl u ↦ absurd (unless_itself host x f.fresh was (sym u)) | inr g ↦ g ];
 }
 
-no_writes : (ls : List Loose) → ((l : Loose) → Contains ls l → ⊥) → ls ≡ []
+pub no_writes : (ls : List Loose) → ((l : Loose) → Contains ls l → ⊥) → ls ≡ []
 no_writes [] h = refl
 no_writes (l ∷ ls) h = absurd (h l (contains_here l ls))
 

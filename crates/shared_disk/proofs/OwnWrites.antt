@@ -1,5 +1,6 @@
 -- What a host's own writes of a piece leave it with, sector by sector.
-use Rattle.std.proofs.Common.{◌≡◌, ℕ, zero, suc, ◌+◌, ◌-◌, ◌<◌, ◌≤◌, ◌==◌, ◌⊎◌, Bool, true, false, List, [], ◌∷◌, ◌++◌, Some, None, unwrap_or, eq-eqb, eqb-true, refl, sym, ap, ◌∙◌, inl, inr, arith}
+use Rattle.std.proofs.Common.{◌≡◌, ◌≢◌, ℕ, zero, suc, ◌+◌, ◌-◌, ◌<◌, ◌≤◌, ◌==◌, ◌&&◌, ◌⊎◌, Bool, true, false, List, [], ◌∷◌, ◌++◌, Option, Some, None, unwrap_or, if◌then◌else◌, eq-eqb, eqb-true, refl, sym, ap, ◌∙◌, inl, inr, arith}
+use Rattle.std.proofs.Math.Decide.{dec_lt}
 use Rattle.std.proofs.lemmas.Bool.{false≢true}
 use Rattle.std.proofs.lemmas.List.{append-nil}
 use Rattle.shared_disk.specs.Content.{Loose, own_of, without, writes, sector_of}
@@ -8,41 +9,72 @@ not_true : (b : Bool) → (b ≡ true → ⊥) → b ≡ false
 not_true true h = absurd (h refl)
 not_true false h = refl
 
--- the newest of some writes is of a sector, or not
-own_same : (host k : ℕ) (b : List ℕ) (ls : List Loose) → own_of host k (record { host = host; sector = k; bytes = b } ∷ ls) ≡ Some b
-own_same host k b ls = rw (eq-eqb host host refl, eq-eqb k k refl) refl
-
+-- the newest of some writes is of another sector
 own_other : (host s k : ℕ) (b : List ℕ) (ls : List Loose) → (s == k) ≡ false → own_of host k (record { host = host; sector = s; bytes = b } ∷ ls) ≡ own_of host k ls
 own_other host s k b ls e = rw (eq-eqb host host refl, e) refl
 
-within_step : (host at n k : ℕ) (bytes : List ℕ) (ls : List Loose) (t : Bool) → (at + n == k) ≡ t → at ≤ k → k < at + suc n
-    → (k < at + n → own_of host k (writes (λ _. true) host at bytes n ++ ls) ≡ Some (sector_of bytes (k - at)))
-    → own_of host k (writes (λ _. true) host at bytes (suc n) ++ ls) ≡ Some (sector_of bytes (k - at))
-within_step host at n k bytes ls true e low high more =
-    let is : at + n ≡ k = eqb-true (at + n) k e in
-    let j : n ≡ k - at = omega arith in
-    rw (eq-eqb host host refl, e) (ap (λ m. Some (sector_of bytes m)) j)
-within_step host at n k bytes ls false e low high more =
-    let apart : at + n ≡ k → ⊥ = λ is. false≢true (sym e ∙ eq-eqb (at + n) k is) in
-    own_other host (at + n) k (sector_of bytes n) (writes (λ _. true) host at bytes n ++ ls) e ∙ more (omega arith)
+-- two equal numbers pass the test
+same_passes : (a b : ℕ) → a ≡ b → (a == b) ≡ true
+same_passes a b e = eq-eqb a b e
+
+others_fail : (a b : ℕ) → a ≢ b → (a == b) ≡ false
+others_fail a b e = not_true (a == b) (λ t. e (eqb-true a b t))
+
+-- a test that fails behind another
+none_of : {A : Type 0} (b : Bool) (x : A) {y z : A} → y ≡ z → (if b && (true && false) then x else y) ≡ z
+none_of true x e = e
+none_of false x e = e
+
+own_if : (b : Bool) (host k : ℕ) (l : Loose) (rest ls : List Loose)
+    → own_of host k ((if b then l ∷ rest else rest) ++ ls) ≡ (if b && (l.host == host && l.sector == k) then Some l.bytes else own_of host k (rest ++ ls))
+own_if true host k l rest ls = refl
+own_if false host k l rest ls = refl
+
+last_or : (j n : ℕ) → j < suc n → (j < n) ⊎ (j ≡ n)
+last_or j n within = elim (dec_lt j n) [ yes below ↦ inl below | no above ↦ inr (omega arith) ]
+
+hit_step : (did : ℕ → Bool) (host at : ℕ) (bytes : List ℕ) (n : ℕ) (others : Option (List ℕ)) (j : ℕ) → did j ≡ true → (j < n → others ≡ Some (sector_of bytes j)) → (j < n) ⊎ (j ≡ n)
+    → (if did n && (host == host && at + n == at + j) then Some (sector_of bytes n) else others) ≡ Some (sector_of bytes j)
+hit_step did host at bytes n others j done before (inl below) =
+    let apart : (at + n == at + j) ≡ false = others_fail (at + n) (at + j) (omega arith) in
+    rw (apart, same_passes host host refl) (none_of (did n) (Some (sector_of bytes n)) (before below))
+hit_step did host at bytes n others j done before (inr is) =
+    let here : did n ≡ true = ap did (sym is) ∙ done in
+    rw (here, same_passes host host refl, same_passes (at + n) (at + j) (omega arith)) (ap (λ i. Some (sector_of bytes i)) (sym is))
+
+-- a sector that was written reads as it was written
+pub own_of-writes_hit : (did : ℕ → Bool) (host at : ℕ) (bytes : List ℕ) (n : ℕ) (ls : List Loose) (j : ℕ) → j < n → did j ≡ true
+    → own_of host (at + j) (writes did host at bytes n ++ ls) ≡ Some (sector_of bytes j)
+own_of-writes_hit did host at bytes zero ls j within done = absurd (omega arith)
+own_of-writes_hit did host at bytes (suc n) ls j within done =
+    own_if (did n) host (at + j) (record { host = host; sector = at + n; bytes = sector_of bytes n }) (writes did host at bytes n) ls
+    ∙ hit_step did host at bytes n (own_of host (at + j) (writes did host at bytes n ++ ls)) j done (λ below. own_of-writes_hit did host at bytes n ls j below done) (last_or j n within)
+
+miss_step : (host at : ℕ) (n k : ℕ) (b : Bool) (mine others before : Option (List ℕ)) → (b ≡ true → k ≢ at + n) → others ≡ before
+    → (if b && (host == host && at + n == k) then mine else others) ≡ before
+miss_step host at n k true mine others before apart rest =
+    let other : (at + n == k) ≡ false = others_fail (at + n) k (λ e. apart refl (sym e)) in
+    rw (other, same_passes host host refl) rest
+miss_step host at n k false mine others before apart rest = rest
+
+-- a sector that wasn't written reads as before
+pub own_of-writes_miss : (did : ℕ → Bool) (host at : ℕ) (bytes : List ℕ) (n : ℕ) (ls : List Loose) (k : ℕ)
+    → ((j : ℕ) → j < n → did j ≡ true → k ≢ at + j) → own_of host k (writes did host at bytes n ++ ls) ≡ own_of host k ls
+own_of-writes_miss did host at bytes zero ls k apart = refl
+own_of-writes_miss did host at bytes (suc n) ls k apart =
+    own_if (did n) host k (record { host = host; sector = at + n; bytes = sector_of bytes n }) (writes did host at bytes n) ls
+    ∙ miss_step host at n k (did n) (Some (sector_of bytes n)) (own_of host k (writes did host at bytes n ++ ls)) (own_of host k ls) (λ done. apart n (omega arith) done)
+    (own_of-writes_miss did host at bytes n ls k (λ j below done. apart j (omega arith) done))
 
 -- after a write that was done whole, the last write of each of its sectors is the piece's
 pub own_within : (host at n k : ℕ) (bytes : List ℕ) (ls : List Loose) → at ≤ k → k < at + n → own_of host k (writes (λ _. true) host at bytes n ++ ls) ≡ Some (sector_of bytes (k - at))
-own_within host at zero k bytes ls low high = absurd (omega arith)
-own_within host at (suc n) k bytes ls low high = within_step host at n k bytes ls (at + n == k) refl low high (own_within host at n k bytes ls low)
-
-outside_step : (did : ℕ → Bool) (host at n k : ℕ) (bytes : List ℕ) (ls : List Loose) (d : Bool) → did n ≡ d → (k < at) ⊎ (at + suc n ≤ k)
-    → own_of host k (writes did host at bytes n ++ ls) ≡ own_of host k ls → own_of host k (writes did host at bytes (suc n) ++ ls) ≡ own_of host k ls
-outside_step did host at n k bytes ls true d out h =
-    let apart : at + n ≡ k → ⊥ = λ is. elim out [ inl l ↦ omega arith | inr r ↦ omega arith ] in
-    rw d (own_other host (at + n) k (sector_of bytes n) (writes did host at bytes n ++ ls) (not_true (at + n == k) (λ t. apart (eqb-true (at + n) k t))) ∙ h)
-outside_step did host at n k bytes ls false d out h = rw d h
+own_within host at n k bytes ls low high =
+    let is : k ≡ at + (k - at) = omega arith in
+    ap (λ m. own_of host m (writes (λ _. true) host at bytes n ++ ls)) is ∙ own_of-writes_hit (λ _. true) host at bytes n ls (k - at) (omega arith) refl
 
 -- a write leaves the last writes of all other sectors as they were
 pub own_outside : (did : ℕ → Bool) (host at n k : ℕ) (bytes : List ℕ) (ls : List Loose) → (k < at) ⊎ (at + n ≤ k) → own_of host k (writes did host at bytes n ++ ls) ≡ own_of host k ls
-own_outside did host at zero k bytes ls out = refl
-own_outside did host at (suc n) k bytes ls out =
-    outside_step did host at n k bytes ls (did n) refl out (own_outside did host at n k bytes ls (elim out [ inl l ↦ inl l | inr r ↦ inr (omega arith) ]))
+own_outside did host at n k bytes ls out = own_of-writes_miss did host at bytes n ls k (λ j within done is. elim out [ inl l ↦ omega arith | inr r ↦ omega arith ])
 
 -- the last write of a sector is as it was, or the piece's
 pub record IsOwnOrPiece (did : ℕ → Bool) (host at n k : ℕ) (bytes : List ℕ) (ls : List Loose) : Type 0 where

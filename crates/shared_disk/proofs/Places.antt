@@ -1,5 +1,5 @@
 -- The tests on places answer exactly whether the two are equal.
-use Rattle.std.proofs.Common.{◌≡◌, Bool, true, false, ◌&&◌, refl, ap, subst}
+use Rattle.std.proofs.Common.{◌≡◌, ◌≢◌, Bool, true, false, ◌&&◌, refl, ap, subst}
 use Rattle.std.proofs.lemmas.Bool.Decides.{same_from_decides}
 use Rattle.std.specs.Bool.{Decides}
 use Rattle.std.proofs.lemmas.Bool.{false≢true}
@@ -97,3 +97,13 @@ dir_is-from p q r h = same_from_decides r (dir_is p q) h (dir_is-decides p q)
 
 pub place_is-from : (p q : Place) (r : Bool) → Decides r (p ≡ q) → r ≡ place_is p q
 place_is-from p q r h = same_from_decides r (place_is p q) h (place_is-decides p q)
+
+pub not_false : (b : Bool) → (b ≡ true → ⊥) → b ≡ false
+not_false true h = absurd (h refl)
+not_false false h = refl
+
+pub place_is-apart : (p q : Place) → p ≢ q → place_is p q ≡ false
+place_is-apart p q h = not_false (place_is p q) (λ e. h (place_is-same p q e))
+
+pub dir_is-apart : (p q : Dir) → p ≢ q → dir_is p q ≡ false
+dir_is-apart p q h = not_false (dir_is p q) (λ e. h (dir_is-same p q e))

@@ -11,9 +11,11 @@ use Rattle.shared_disk.specs.declared.entry.Write.{Write}
 use Rattle.shared_disk.specs.declared.sector_map.Sectors.{Sectors}
 use Rattle.shared_disk.specs.Content.{own_of, without, unless_by, zero_sector}
 use Rattle.shared_disk.specs.Calls.{IsPut, synced}
+use Rattle.shared_disk.specs.Files.{entry_synced}
 use Rattle.shared_disk.specs.Sectors.{sector_at}
-use Rattle.shared_disk.specs.Store.{found, is_by, loose_in, loose_of, others_of, or_else, file_of, content_of}
-use Rattle.shared_disk.proofs.Contents.{not_false, found_set-here, found_set-other, is_put}
+use Rattle.shared_disk.specs.Store.{AreApart, IsSlotPut, found, is_by, loose_in, loose_of, others_of, or_else, file_of, content_of}
+use Rattle.shared_disk.proofs.Contents.{is_put}
+use Rattle.shared_disk.proofs.Places.{not_false}
 
 reverse-cons : {A : Type 0} (x : A) (xs : List A) → reverse (x ∷ xs) ≡ reverse xs ++ x ∷ []
 reverse-cons x xs = reverse-append (x ∷ []) xs
@@ -22,7 +24,7 @@ filter_last : {A : Type 0} (p : A → Bool) (x : A) (xs : List A) (b : Bool) →
 filter_last p x xs true e = rw e (sym (reverse-cons x (filter p xs)))
 filter_last p x xs false e = rw e (append-nil (reverse (filter p xs)))
 
-filter-reverse : {A : Type 0} (p : A → Bool) (xs : List A) → filter p (reverse xs) ≡ reverse (filter p xs)
+pub filter-reverse : {A : Type 0} (p : A → Bool) (xs : List A) → filter p (reverse xs) ≡ reverse (filter p xs)
 filter-reverse p [] = refl
 filter-reverse p (x ∷ xs) =
     ap (λ ys. filter p ys) (reverse-cons x xs) ∙ filter-append p (reverse xs) (x ∷ []) ∙ ap (λ ys. ys ++ filter p (x ∷ [])) (filter-reverse p xs) ∙ filter_last p x xs (p x) refl
@@ -67,14 +69,12 @@ or_else_or : (a b : Option (List ℕ)) (d : List ℕ) → unwrap_or (or_else a b
 or_else_or (Some x) b d = refl
 or_else_or None b d = refl
 
-pub is_synced : (dirs : List Dir) (files files1 : List FileEntry) (stable stable1 : Sectors) (log log1 : List Write) (p : Place) (number : ℕ) (f f1 : FileEntry) (host : ℕ)
-    → found p 0 files ≡ Some (number, f) → files1 ≡ set files number f1 → f1.place ≡ f.place → f1.size ≡ f.size → f1.fresh ≡ unless_by host f.fresh
+pub is_synced : (dirs dirs1 : List Dir) (files files1 : List (Option FileEntry)) (stable stable1 : Sectors) (log log1 : List Write) (p : Place) (number : ℕ) (f : FileEntry) (host : ℕ)
+    → dirs1 ≡ dirs → AreApart files1 → found p 0 files ≡ Some (number, f) → IsSlotPut number (Some (entry_synced host f)) files files1
     → ((n k : ℕ) → sector_at stable1 0 n k ≡ (if number == n then or_else (own_of host k (loose_of number log)) (sector_at stable 0 n k) else sector_at stable 0 n k))
     → log1 ≡ others_of host number log
-    → IsPut (content_of dirs files stable log) p (Some (synced host (file_of stable log number f))) (content_of dirs files1 stable1 log1)
-is_synced dirs files files1 stable stable1 log log1 p number f f1 host was is place size fresh at gone =
-    let z : number ≡ number - 0 = omega arith in
-    let e : files1 ≡ set files (number - 0) f1 = rw (← z) is in
+    → IsPut (content_of dirs files stable log) p (Some (synced host (file_of stable log number f))) (content_of dirs1 files1 stable1 log1)
+is_synced dirs dirs1 files files1 stable stable1 log log1 p number f host folders apart was put at gone =
     let same : (n : ℕ) → (n == n) ≡ true = λ n. eq-eqb n n refl in
     let stable_here : (k : ℕ) → unwrap_or (sector_at stable1 0 number k) zero_sector ≡ unwrap_or (own_of host k (loose_of number log)) (unwrap_or (sector_at stable 0 number k) zero_sector)
     = λ k. ap (λ o. unwrap_or o zero_sector) (rw same at (at number k)) ∙ or_else_or (own_of host k (loose_of number log)) (sector_at stable 0 number k) zero_sector in
@@ -82,8 +82,6 @@ is_synced dirs files files1 stable stable1 log log1 p number f f1 host was is pl
     let stable_other : (m k : ℕ) → m ≢ number → unwrap_or (sector_at stable1 0 m k) zero_sector ≡ unwrap_or (sector_at stable 0 m k) zero_sector
     = λ m k apart. ap (λ o. unwrap_or o zero_sector) (rw (not_false (number == m) (λ t. apart (sym (eqb-true number m t)))) at (at m k)) in
     let loose_else : (m : ℕ) → m ≢ number → loose_of m log1 ≡ loose_of m log = λ m apart. ap (λ ws. loose_of m ws) gone ∙ others_other host number m log apart in
-    is_put dirs files files1 stable stable1 log log1 p number f f1 _ was
-    (ap (λ fs. found p 0 fs) e ∙ found_set-here p 0 files number f f1 was place)
-    (λ q apart. ap (λ fs. found q 0 fs) e ∙ found_set-other p q 0 files number f f1 was place apart)
+    is_put dirs dirs1 files files1 stable stable1 log log1 p number f (entry_synced host f) _ folders apart was refl put
     (λ m g apart. λ i. record { size = g.size; stable = λ k. stable_other m k apart i; loose = loose_else m apart i; fresh = g.fresh })
-    (λ i. record { size = size i; stable = λ k. stable_here k i; loose = loose_here i; fresh = fresh i })
+    (λ i. record { size = f.size; stable = λ k. stable_here k i; loose = loose_here i; fresh = unless_by host f.fresh })

@@ -25,6 +25,10 @@ raised size f = record {
   fresh = f.fresh;
 }
 
+-- a file that has at least so many sectors: raised where it had fewer
+abbrev pub grown : ℕ → File → File
+grown size f = if nat_lt f.size size then raised size f else f
+
 -- the second file is the first with this sector in place of one
 pub record IsChangedAt (sector : ℕ) (next : List ℕ) (f g : File) : Type 0 where
   pub size : g.size ≡ f.size

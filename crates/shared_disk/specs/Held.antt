@@ -7,8 +7,8 @@ use Rattle.shared_disk.specs.Store.{content_of}
 
 -- what it holds
 abbrev pub held : Store → Content
-held s = content_of s.dirs.items s.files.items s.stable s.log.items
+held s = content_of s.dirs.items s.files.slots.items s.stable s.log.items
 
 -- how many units it holds: folders, files, stable sectors and unsynced writes of a sector
 abbrev pub units : Store → ℕ
-units s = vec_len s.dirs + vec_len s.files + kept_count s.stable + vec_len s.log
+units s = vec_len s.dirs + s.files.count + kept_count s.stable + vec_len s.log

@@ -4,7 +4,12 @@ pub mod Refusal
 pub mod Places
 pub mod Sectors
 pub mod Store
+pub mod Files
+pub mod Listing
+pub mod Settled
 pub mod Held
 pub mod Parts
 pub mod Crash
 pub mod Changes
+pub mod SectorCalls
+pub mod NameCalls

@@ -19,4 +19,6 @@ pub(crate) struct Write {
     pub(crate) file: usize,
     pub(crate) sector: u64,
     pub(crate) bytes: [u8; 512],
+    // Whether the host had no other write of the sector that waited: each sector has one such write.
+    pub(crate) first: bool,
 }

@@ -1,9 +1,10 @@
 // Laws of the disk's definitions: contracts of functions that do nothing.
-ghost use Rattle.std.specs.Prelude.{◌≡◌, ℕ, ◌+◌, ◌-◌, ◌<◌, ◌≤◌, ◌⊎◌, ◌++◌, ◌≢◌, Bool, true, Contains, List, Option, None, Some, unwrap_or};
+ghost use Rattle.std.specs.Prelude.{◌≡◌, ℕ, ◌+◌, ◌-◌, ◌<◌, ◌≤◌, ◌⊎◌, ◌++◌, ◌≢◌, Bool, true, Contains, List, [], Option, None, Some, unwrap_or};
 ghost use Rattle.sd_names.specs.declared.place.Place.{Place};
 ghost use Rattle.shared_disk.specs.Calls.{IsPut, synced, wrote};
 ghost use Rattle.shared_disk.specs.Changes.{IsChangedAt, exchanged, raised};
-ghost use Rattle.shared_disk.specs.Content.{Content, File, Loose, own_of, seen, without, writes, sector_of, zero_sector};
+ghost use Rattle.shared_disk.specs.Content.{Content, File, Loose, Sees, own_of, seen, without, writes, sector_of, zero_sector};
+ghost use Rattle.shared_disk.specs.NameCalls.{IsRenamed};
 ghost use Rattle.shared_disk.specs.Crash.{AllDown, Covers, DownLeaves, IsAlone, IsDownFile, IsFileOutcome, IsLaidOver, IsOutcome, IsOutcomeSector, IsSettled, stable_folder, with_file};
 
 /// What a host that is alone in a file sees of a sector, and a sync puts onto the medium, after it wrote a piece: the
@@ -78,4 +79,31 @@ pub fn outcome_after_an_exchange()
 pub fn outcome_after_a_raise()
     ensures old { (size k : ℕ) (f : File) (b : List ℕ) → k < f.size → IsOutcomeSector (raised size f) k b → IsOutcomeSector f k b }
     ensures new { (size k : ℕ) (f : File) (b : List ℕ) → f.size ≤ k → f.fresh ≡ None → ((l : Loose) → Contains f.loose l → l.sector < f.size) → IsOutcomeSector (raised size f) k b → b ≡ zero_sector }
+{}
+
+/// An outcome after a rename is an outcome from before with the file at its new name and none at the old one. It has
+/// what that one had everywhere else.
+pub fn outcome_after_a_rename()
+    ensures { (d e o : Content) (from to : Place) → IsRenamed d from to e → IsOutcome e o → (b : Content) × IsOutcome d b × IsRenamed b from to o }
+{}
+
+/// An outcome after a removal is an outcome from before without the file, whichever outcome the file had, and as that
+/// one everywhere else.
+pub fn outcome_after_a_removal()
+    ensures { (d e o : Content) (p : Place) (f g : File) → d.file p ≡ Some f → IsPut d p None e → IsFileOutcome f g → IsOutcome e o → IsOutcome d (with_file p g o) × IsPut (with_file p g o) p None o }
+{}
+
+/// Outcomes of two files are on one outcome of their folder.
+pub fn outcomes_of_two_files()
+    ensures { (d : Content) (p q : Place) (f g x y : File) → d.file p ≡ Some f → d.file q ≡ Some g → IsFileOutcome f x → IsFileOutcome g y → IsOutcome d (with_file p x (with_file q y (stable_folder d))) }
+{}
+
+/// A host sees one value of each sector of a file in which no other host has unsynced writes.
+pub fn a_host_alone_sees_one_value()
+    ensures { (host k : ℕ) (f : File) (bytes : List ℕ) → without host f.loose ≡ [] → Sees host f k bytes → bytes ≡ seen host f k }
+{}
+
+/// A host that goes down leaves a file as it is in which it has nothing unsynced.
+pub fn a_settled_host_leaves_a_file()
+    ensures { (host : ℕ) (f g : File) → ((l : Loose) → Contains f.loose l → l.host ≢ host) → f.fresh ≢ Some host → IsDownFile host f g → g ≡ f }
 {}

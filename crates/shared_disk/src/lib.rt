@@ -3,15 +3,19 @@
 
 mod disk;
 mod entry;
+mod files;
 pub mod laws;
+mod listing;
 mod log;
 mod memory;
+mod picks;
 mod refusal;
 mod sector_map;
 mod store;
 
-pub use disk::{DiskAnswer, SharedDisk};
-pub use memory::{Memory, Pick};
+pub use disk::{DiskAnswer, Exchanged, SharedDisk};
+pub use memory::Memory;
+pub use picks::Pick;
 pub use refusal::refusal_for;
 
 #[cfg(test)]

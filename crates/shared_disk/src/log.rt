@@ -1,8 +1,8 @@
 // The unsynced writes of a memory disk, the oldest first.
-ghost use Rattle.std.specs.Prelude.{◌≡◌, ◌<◌, ◌≤◌, ◌+◌, ◌==◌, ◌&&◌, ℕ, Some, None, length, vec_capacity, if◌then◌else◌};
+ghost use Rattle.std.specs.Prelude.{◌≡◌, ◌<◌, ◌≤◌, ◌+◌, ◌==◌, ◌&&◌, ℕ, Some, None, IsTrue, length, vec_capacity, if◌then◌else◌};
 ghost use Rattle.shared_disk.specs.Content.{own_of};
 ghost use Rattle.shared_disk.specs.Sectors.{sector_at, kept_count, kept_room};
-ghost use Rattle.shared_disk.specs.Store.{is_by, loose_of, others_of, or_else};
+ghost use Rattle.shared_disk.specs.Store.{apart_of, is_at, is_by, loose_of, not_by, others_of, or_else, outside_of};
 
 use crate::entry::Write;
 use crate::sector_map::{MEDIUM, Sectors};
@@ -45,6 +45,49 @@ pub(crate) fn forget(log: &mut Vec<Write>, host: HostId, number: usize)
     ensures capacity { vec_capacity log.new ≡ vec_capacity log.old }
 {
     log.retain(|write| !is_of(write, host, number));
+}
+
+/// Takes the writes of a file out of the log.
+pub(crate) fn forget_file(log: &mut Vec<Write>, number: usize)
+    ensures items { log.new.items ≡ outside_of number log.old.items }
+    ensures capacity { vec_capacity log.new ≡ vec_capacity log.old }
+{
+    log.retain(|write| write.file != number);
+}
+
+// Whether a write is of a sector of a file.
+fn is_at_sector(write: &Write, number: usize, sector: u64) -> bool
+    ensures { result ≡ is_at number sector write.now }
+{
+    write.file == number && write.sector == sector
+}
+
+/// Takes the writes of a sector out of the log.
+pub(crate) fn forget_sector(log: &mut Vec<Write>, number: usize, sector: u64)
+    ensures items { log.new.items ≡ apart_of number sector log.old.items }
+    ensures capacity { vec_capacity log.new ≡ vec_capacity log.old }
+{
+    log.retain(|write| !is_at_sector(write, number, sector));
+}
+
+/// Takes the writes of a host out of the log.
+pub(crate) fn forget_host(log: &mut Vec<Write>, host: HostId)
+    ensures items { log.new.items ≡ not_by host log.old.items }
+    ensures capacity { vec_capacity log.new ≡ vec_capacity log.old }
+{
+    log.retain(|write| write.host.get() != host.get());
+}
+
+/// Whether a write of the sector waits.
+pub(crate) fn is_waiting(log: &[Write], number: usize, sector: u64) -> bool
+    ensures { IsTrue result → length (apart_of number sector log.now) < length log.now }
+{
+    for write in log {
+        if is_at_sector(write, number, sector) {
+            return true;
+        }
+    }
+    false
 }
 
 /// Keeps the last write of each sector by each host.

@@ -3,21 +3,11 @@ ghost use Rattle.std.specs.Prelude.{◌≡◌, ◌≢◌, ℕ, ◌+◌, ◌-◌,
 ghost use Rattle.shared_disk.specs.Calls.{Told};
 ghost use Rattle.shared_disk.specs.Content.{Content, IsEmpty};
 
+use crate::picks::{Pick, Picks};
 use crate::store::Store;
-use crate::{DiskAnswer, SharedDisk};
-use sd_names::{Dir, HostId, NoMemory, Place};
+use crate::{DiskAnswer, Exchanged, SharedDisk};
+use sd_names::{Dir, HostId, Name, NoMemory, Place};
 use std::alloc::Global;
-
-/// How a sector that a host had not synced is settled when the host goes down.
-#[derive(Clone, Copy, Debug)]
-pub enum Pick {
-    /// As it is on the medium.
-    Old,
-    /// As it was written last.
-    New,
-    /// Filled with this byte, in a file that the host made and had not synced; as it is on the medium in any other.
-    Byte(u8),
-}
 
 /// A shared folder in memory, which fails in the calls that it is told to fail in. It takes its memory at once and
 /// keeps only sectors that were written. Each folder but the root, each file, each sector on the medium and each
@@ -25,7 +15,7 @@ pub enum Pick {
 /// changes nothing.
 #[derive(Drop)]
 pub struct Memory {
-    picks: Vec<Pick>,
+    picks: Picks,
     failing: Vec<u64>,
     calls: u64,
     faults: u64,
@@ -41,7 +31,7 @@ fn bump(count: &mut u64)
 }
 
 impl Memory {
-    ghost use Rattle.shared_disk.specs.Parts.{content_of_memory};
+    ghost use Rattle.shared_disk.specs.Parts.{content_of_memory, failing_of_memory, room_of_memory};
 
     /// An empty folder with room for so many units. The calls with the numbers in `failing` fail; the first call has
     /// the number 0.
@@ -52,10 +42,12 @@ impl Memory {
         room: u64,
     ) -> Result<Memory, NoMemory>
         ensures empty { IfOk result (λ m. (d : Content) × (content_of_memory m ≡ Some d) × IsEmpty d) }
+        ensures room { IfOk result (λ m. room_of_memory m ≡ room) }
+        ensures failing { IfOk result (λ m. failing_of_memory m ≡ failing.items) }
     {
         match Store::new(alloc, room as usize) {
             Ok(store) => Ok(Memory {
-                picks,
+                picks: Picks::new(picks),
                 failing,
                 calls: 0,
                 faults: 0,
@@ -161,6 +153,85 @@ impl SharedDisk for Memory {
         let answer = self.store.make_dir(dir);
         self.count(answer);
         answer
+    }
+
+    fn grow(&mut self, _host: HostId, place: Place, length: u64) -> Result<(), DiskAnswer> {
+        if self.fails() {
+            return Err(DiskAnswer::Failed);
+        }
+        self.store.grow(place, length)
+    }
+
+    fn rename(&mut self, _host: HostId, from: Place, to: Name) -> Result<(), DiskAnswer> {
+        if self.fails() {
+            return Err(DiskAnswer::Failed);
+        }
+        self.store.rename(from, to)
+    }
+
+    fn remove(&mut self, _host: HostId, place: Place) -> Result<(), DiskAnswer> {
+        if self.fails() {
+            return Err(DiskAnswer::Failed);
+        }
+        self.store.remove(place)
+    }
+
+    fn remove_dir(&mut self, _host: HostId, dir: Dir) -> Result<(), DiskAnswer> {
+        if self.fails() {
+            return Err(DiskAnswer::Failed);
+        }
+        self.store.remove_dir(dir)
+    }
+
+    fn move_dir(&mut self, _host: HostId, from: Dir, to: Dir) -> Result<(), DiskAnswer> {
+        if self.fails() {
+            return Err(DiskAnswer::Failed);
+        }
+        self.store.move_dir(from, to)
+    }
+
+    fn next_name(
+        &mut self,
+        _host: HostId,
+        dir: Dir,
+        after: Option<Name>,
+    ) -> Result<Option<Name>, DiskAnswer> {
+        if self.fails() {
+            return Err(DiskAnswer::Failed);
+        }
+        self.store.next_name(dir, after)
+    }
+
+    fn next_dir(
+        &mut self,
+        _host: HostId,
+        dir: Dir,
+        after: Option<Dir>,
+    ) -> Result<Option<Dir>, DiskAnswer> {
+        if self.fails() {
+            return Err(DiskAnswer::Failed);
+        }
+        self.store.next_dir(dir, after)
+    }
+
+    fn exchange(
+        &mut self,
+        host: HostId,
+        place: Place,
+        sector: u64,
+        expect: &[u8; 512],
+        next: &[u8; 512],
+    ) -> Result<Exchanged, DiskAnswer> {
+        if self.fails() {
+            return Err(DiskAnswer::Failed);
+        }
+        let answer = self.store.exchange(host, place, sector, expect, next);
+        self.count(answer.map(|_| ()));
+        answer
+    }
+
+    fn down(&mut self, host: HostId) {
+        self.store.down(host, &mut self.picks);
     }
 
     fn fault_count(&self) -> u64 {

@@ -1,5 +1,5 @@
 // Sectors by owner, file and number, in room that is taken at once.
-ghost use Rattle.std.specs.Prelude.{◌≡◌, ◌+◌, ◌<◌, ◌≤◌, ℕ, Some, None, IfOk, is_some, if◌then◌else◌};
+ghost use Rattle.std.specs.Prelude.{◌≡◌, ◌+◌, ◌<◌, ◌≤◌, ◌==◌, ℕ, Some, None, IfOk, is_some, if◌then◌else◌};
 
 use std::alloc::{AllocError, Global};
 use std::collections::HashMap;
@@ -54,6 +54,22 @@ impl Sectors {
             return;
         }
         let _ = self.map.insert(key, *bytes);
+    }
+
+    /// Keeps in `into` the sectors of all files but one.
+    pub(crate) fn copy_others(&self, file: usize, into: &mut Sectors)
+        requires empty { (o f k : ℕ) → sector_at into.old o f k ≡ None }
+        requires none { kept_count into.old ≡ 0 }
+        requires room { kept_count self.now ≤ kept_room into.old }
+        ensures at { (o f k : ℕ) → sector_at into.new o f k ≡ (if file == f then None else sector_at self.now o f k) }
+        ensures count { kept_count into.new ≤ kept_count self.now }
+        ensures room { kept_room into.old ≤ kept_room into.new }
+    {
+        for (key, bytes) in self.map.iter() {
+            if key.1 != file {
+                into.put(key.0, key.1, key.2, bytes);
+            }
+        }
     }
 
     /// Keeps no sector any more.

@@ -1,18 +1,23 @@
 // The folders, files and sectors of a memory disk, in room that is taken at once.
-ghost use Rattle.std.specs.Prelude.{◌≡◌, ◌≢◌, ℕ, ◌+◌, ◌-◌, ◌*◌, ◌/◌, ◌<◌, ◌≤◌, ◌↔◌, ◌++◌, ◌∷◌, ◌==◌, true, false, [], if◌then◌else◌, Some, None, Ok, Err, IsTrue, IfOk, IfErr, OnErr, length, drop, unwrap_or, vec_len, vec_capacity};
+ghost use Rattle.std.specs.Prelude.{◌≡◌, ◌≢◌, ℕ, ◌+◌, ◌-◌, ◌*◌, ◌/◌, ◌<◌, ◌≤◌, ◌↔◌, ◌++◌, ◌∷◌, ◌==◌, true, false, [], if◌then◌else◌, Some, None, Ok, Err, IsTrue, Bool, IfOk, IfErr, OnErr, length, drop, unwrap_or, vec_len, vec_capacity};
 ghost use Rattle.std.proofs.Props.{props};
 ghost use Rattle.sd_names.specs.declared.place.Dir.TheVariants.{Root};
-ghost use Rattle.shared_disk.specs.Content.{writes, own_of, sector_of, unless_by, zero_sector};
+ghost use Rattle.shared_disk.specs.Content.{writes, own_of, sector_of, zero_sector};
 ghost use Rattle.shared_disk.specs.Calls.{IsAligned, IsPiece, ReadAt, WriteAt, Syncs, Creates, HasLength, MakesDir, parent_of};
 ghost use Rattle.shared_disk.specs.Sectors.{sector_at, kept_count, kept_room};
-ghost use Rattle.shared_disk.specs.Store.{has_dir, found, loose_of, content_of, others_of, or_else};
+ghost use Rattle.shared_disk.specs.Store.{AreHoused, IsLogWithin, IsStableWithin, has_dir, loose_of, others_of, or_else, slot, slot_size};
 
 use crate::DiskAnswer;
 use crate::entry::{FileEntry, Write};
+use crate::files::{Files, synced_entry};
 use crate::log::{forget, index, settle};
 use crate::sector_map::{MEDIUM, Sectors};
 use sd_names::{Dir, HostId, Place};
 use std::alloc::{AllocError, Global};
+
+mod down;
+mod names;
+mod sectors;
 
 /// The folder in which a folder stands. Root stands in itself.
 pub(crate) fn parent(dir: Dir) -> Dir
@@ -32,7 +37,7 @@ pub(crate) fn parent(dir: Dir) -> Dir
 pub(crate) struct Store {
     room: usize,
     dirs: Vec<Dir>,
-    files: Vec<FileEntry>,
+    files: Files,
     // What is on the medium.
     stable: Sectors,
     // The last unsynced write of each sector by each host.
@@ -40,15 +45,16 @@ pub(crate) struct Store {
     // The unsynced writes, the oldest first.
     log: Vec<Write>,
     ghost dirs_room: { room ≤ vec_capacity dirs },
-    ghost files_room: { room ≤ vec_capacity files },
+    ghost files_room: { room ≤ vec_capacity files.slots },
     ghost log_room: { room ≤ vec_capacity log },
     ghost stable_room: { room ≤ kept_room stable },
     ghost own_room: { room ≤ kept_room own },
-    ghost used: { vec_len dirs + vec_len files + kept_count stable + vec_len log ≤ room },
+    ghost used: { vec_len dirs + files.count + kept_count stable + vec_len log ≤ room },
     ghost own_fits: { kept_count own ≤ vec_len log },
     ghost own_is: { (h n k : ℕ) → 0 < h → sector_at own h n k ≡ own_of h k (loose_of n log.items) } by { Prim.hlevel props },
-    ghost no_stable: { (n k : ℕ) → length files.items ≤ n → sector_at stable 0 n k ≡ None } by { Prim.hlevel props },
-    ghost no_log: { (n : ℕ) → length files.items ≤ n → loose_of n log.items ≡ [] } by { Prim.hlevel props },
+    ghost stable_within: { IsStableWithin files.slots.items stable } by { Prim.hlevel props },
+    ghost log_within: { IsLogWithin files.slots.items log.items } by { Prim.hlevel props },
+    ghost housed: { AreHoused dirs.items files.slots.items } by { Prim.hlevel props },
 }
 
 // The folders that were made and the root.
@@ -66,18 +72,6 @@ fn is_dir(dirs: &[Dir], dir: Dir) -> bool
     false
 }
 
-// The number of the file at a place, and its entry.
-fn find(files: &[FileEntry], place: Place) -> Option<(usize, FileEntry)>
-    ensures { result ≡ found place 0 files.now }
-{
-    for (i, file) in files.iter().enumerate() {
-        if file.place.is(&place) {
-            return Some((i, *file));
-        }
-    }
-    None
-}
-
 // A sector of some bytes.
 fn sector(bytes: &[u8], k: usize) -> [u8; 512]
     requires { 512 * (k + 1) ≤ length bytes.now }
@@ -86,23 +80,6 @@ fn sector(bytes: &[u8], k: usize) -> [u8; 512]
     let mut sector = [0; 512];
     sector.copy_from_slice(&bytes[512 * k..512 * k + 512]);
     sector
-}
-
-// A file's entry after a sync by a host.
-fn synced_entry(file: FileEntry, host: HostId) -> FileEntry
-    ensures place { result.place ≡ file.place }
-    ensures size { result.size ≡ file.size }
-    ensures fresh { result.fresh ≡ unless_by host file.fresh }
-{
-    let fresh = match file.fresh {
-        Some(maker) if maker.get() == host.get() => None,
-        other => other,
-    };
-    FileEntry {
-        place: file.place,
-        size: file.size,
-        fresh,
-    }
 }
 
 // Puts a sector among some bytes.
@@ -121,13 +98,13 @@ impl Store {
     /// Nothing, with room for so many units.
     pub(crate) fn new(alloc: Global, room: usize) -> Result<Store, AllocError>
         ensures dirs { IfOk result (λ s. s.dirs.items ≡ []) }
-        ensures files { IfOk result (λ s. s.files.items ≡ []) }
+        ensures files { IfOk result (λ s. s.files.slots.items ≡ []) }
         ensures room { IfOk result (λ s. s.room ≡ room) }
     {
         Ok(Store {
             room,
             dirs: Vec::with_capacity(alloc, room)?,
-            files: Vec::with_capacity(alloc, room)?,
+            files: Files::new(alloc, room)?,
             stable: Sectors::new(alloc, room)?,
             own: Sectors::new(alloc, room)?,
             log: Vec::with_capacity(alloc, room)?,
@@ -165,7 +142,7 @@ impl Store {
         ensures call { HasLength (held self.now) place result (held self.now) }
         ensures failed { result ≢ Err DiskAnswer.Failed }
     {
-        match find(&self.files, place) {
+        match self.files.find(place) {
             Some((_, file)) => Ok(512 * file.size),
             None => Err(DiskAnswer::NoFile),
         }
@@ -185,13 +162,13 @@ impl Store {
         if !is_dir(&self.dirs, place.dir) {
             return Err(DiskAnswer::NoFile);
         }
-        if find(&self.files, place).is_some() {
+        if self.files.find(place).is_some() {
             return Err(DiskAnswer::Exists);
         }
         if !self.has_room(1) {
             return Err(DiskAnswer::Failed);
         }
-        self.files.push_reserved(FileEntry {
+        self.files.add(FileEntry {
             place,
             size: length / 512,
             fresh: Some(host),
@@ -223,7 +200,7 @@ impl Store {
         ensures failed { result ≢ Err DiskAnswer.Failed }
         ensures kept { OnErr result (into.new ≡ into.old) }
     {
-        let (number, file) = match find(&self.files, place) {
+        let (number, file) = match self.files.find(place) {
             Some(found) => found,
             None => return Err(DiskAnswer::NoFile),
         };
@@ -244,19 +221,21 @@ impl Store {
     // Adds an unsynced write of a sector.
     fn write_sector(&mut self, host: HostId, number: usize, k: u64, bytes: [u8; 512])
         requires room { units self.old < self.old.room }
-        requires there { number < length self.old.files.items }
+        requires there { k < slot_size (slot number self.old.files.slots.items) }
         ensures dirs { self.new.dirs ≡ self.old.dirs }
         ensures files { self.new.files ≡ self.old.files }
         ensures stable { self.new.stable ≡ self.old.stable }
-        ensures log { self.new.log.items ≡ self.old.log.items ++ record { host = host; file = number; sector = k; bytes = bytes } ∷ [] }
+        ensures log { (first : Bool) × (self.new.log.items ≡ self.old.log.items ++ record { host = host; file = number; sector = k; bytes = bytes; first = first } ∷ []) }
         ensures room { self.new.room ≡ self.old.room }
     {
+        let first = self.own.get(host.get(), number, k).is_none();
         self.own.put(host.get(), number, k, &bytes);
         self.log.push_reserved(Write {
             host,
             file: number,
             sector: k,
             bytes,
+            first,
         });
     }
 
@@ -274,7 +253,7 @@ impl Store {
         ensures unchanged { OnErr result (held self.new ≡ held self.old) }
         ensures room { self.new.room ≡ self.old.room }
     {
-        let (number, file) = match find(&self.files, place) {
+        let (number, file) = match self.files.find(place) {
             Some(found) => found,
             None => return Err(DiskAnswer::NoFile),
         };
@@ -294,7 +273,6 @@ impl Store {
 
     // Puts the writes of a file by a host onto the medium.
     fn settle(&mut self, host: HostId, number: usize)
-        requires { number < length self.old.files.items }
         ensures dirs { self.new.dirs ≡ self.old.dirs }
         ensures files { self.new.files ≡ self.old.files }
         ensures stable { (n k : ℕ) → sector_at self.new.stable 0 n k ≡ (if number == n then or_else (own_of host k (loose_of number self.old.log.items)) (sector_at self.old.stable 0 n k) else sector_at self.old.stable 0 n k) }
@@ -312,12 +290,12 @@ impl Store {
         ensures failed { result ≢ Err DiskAnswer.Failed }
         ensures room { self.new.room ≡ self.old.room }
     {
-        let (number, file) = match find(&self.files, place) {
+        let (number, file) = match self.files.find(place) {
             Some(found) => found,
             None => return Err(DiskAnswer::NoFile),
         };
         self.settle(host, number);
-        self.files[number] = synced_entry(file, host);
+        self.files.put(number, synced_entry(file, host));
         Ok(())
     }
 }

@@ -4,4 +4,8 @@ use Rattle.shared_disk.proofs.Contents.{is_empty}
 use Rattle.shared_disk.proofs.memory.Memory.new.Goals as goal
 
 pub returns-in-Ok : goal.returns-in-Ok
-returns-in-Ok c = record { empty = (held c.in-Ok.store, refl, is_empty _ _ c.in-Ok.store.stable c.in-Ok.store.log.items c.in-Ok.ensures.dirs c.in-Ok.ensures.files) }
+returns-in-Ok c = record {
+  empty = (held c.in-Ok.store, refl, is_empty _ _ c.in-Ok.store.stable c.in-Ok.store.log.items c.in-Ok.ensures.dirs c.in-Ok.ensures.files);
+  room = c.in-Ok.ensures.room;
+  failing = refl;
+}

@@ -13,13 +13,13 @@ loop-i-preserved c = record {
 
 pub returns-clause-call : goal.returns-clause-call
 returns-clause-call c =
-    let at : found c.args.place 0 c.args.self.now.files.items ≡ Some c.in-Some.found = cc in
+    let at : found c.args.place 0 c.args.self.now.files.slots.items ≡ Some c.in-Some.found = cc in
     let end : c.loop-i.i ≡ c.if-left-room.count = omega arith in
     let count : 512 * c.if-left-room.count ≡ min (length c.args.into.now) (512 * (c.in-Some.found.1.size - c.args.at / 512)) =
     elim c.if-left-room.branch [ then-left-room w ↦ omega arith | else-left-room w ↦ omega arith ] in (
       refl,
       file_of c.args.self.now.stable c.args.self.now.log.items c.in-Some.found.0 c.in-Some.found.1,
-      file_at c.args.self.now.dirs.items c.args.self.now.files.items c.args.self.now.stable c.args.self.now.log.items c.args.place at,
+      file_at c.args.self.now.dirs.items c.args.self.now.files.slots.items c.args.self.now.stable c.args.self.now.log.items c.args.place at,
       count,
       record {
         sectors = λ k h. inl (c.loop-i.invariant.sectors k (omega arith));
