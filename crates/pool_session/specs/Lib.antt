@@ -11,6 +11,7 @@ pub mod Memory
 pub mod Program
 pub mod Reply
 pub mod Run
+pub mod Script
 pub mod Session
 pub mod Status
 pub mod Stream

@@ -2,6 +2,7 @@
 use Rattle.std.specs.Prelude.{ℕ, List, drop}
 use Rattle.pool_session.specs.declared.memory.MemorySource.{MemorySource}
 use Rattle.pool_session.specs.declared.memory.MemorySink.{MemorySink}
+use Rattle.pool_session.specs.declared.script.Script.{Script}
 
 -- the bytes that are still to come
 abbrev pub source_left : MemorySource → List ℕ
@@ -32,3 +33,7 @@ sink_room s = s.room
 
 abbrev pub sink_failing : MemorySink → List ℕ
 sink_failing s = s.failing.items
+
+-- the bytes of a script that are still to come
+abbrev pub script_left : Script → List ℕ
+script_left s = drop s.at s.text.items

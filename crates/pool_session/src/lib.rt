@@ -10,6 +10,7 @@ mod machine;
 mod memory;
 mod program;
 mod reply;
+mod script;
 mod session;
 mod stage;
 mod status;

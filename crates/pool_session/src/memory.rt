@@ -77,7 +77,7 @@ impl Source for MemorySource {
 }
 
 /// Copies bytes to the front of some room, at most so many, and answers how many.
-fn copy_front(bytes: &[u8], into: &mut [u8], most: usize) -> usize
+pub fn copy_front(bytes: &[u8], into: &mut [u8], most: usize) -> usize
     requires { 0 < most }
     ensures count { result ≤ length bytes.now }
     ensures bound { result ≤ length into.old }

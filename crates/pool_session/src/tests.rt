@@ -73,7 +73,7 @@ fn sound_disk(alloc: Global) -> Result<Memory, Fail> {
 fn scripts_and_their_ends(rt: HostRuntime) -> Result<(), Fail> {
     let alloc = rt.alloc();
     let half = Streams { room: 8, ..SOUND };
-    let table: [(&[&str], &str, Streams, Status, &str); 14] = [
+    let table: [(&[&str], &str, Streams, Status, &str); 11] = [
         (&["session"], SCRIPT, SOUND, Status::Done, REPLIES),
         (
             &["session"],
@@ -137,9 +137,6 @@ fn scripts_and_their_ends(rt: HostRuntime) -> Result<(), Fail> {
             Status::WriteFault,
             "1 ok\n2 r",
         ),
-        (&[], SCRIPT, SOUND, Status::Words, ""),
-        (&["run"], SCRIPT, SOUND, Status::Words, ""),
-        (&["session", "session"], SCRIPT, SOUND, Status::Words, ""),
     ];
     for (words, input, streams, status, replies) in table {
         let mut disk = sound_disk(alloc)?;
@@ -155,6 +152,98 @@ fn scripts_and_their_ends(rt: HostRuntime) -> Result<(), Fail> {
                 replies.as_bytes()
             )?,
             "{words:?} {streams:?} {status:?} {replies:?}"
+        );
+    }
+    Ok(())
+}
+
+// The words of a run of the first script's lines.
+const RUN: [&str; 8] = [
+    "run",
+    "1 boot",
+    "1 make-pool 00000000-0000-4000-8000-000000000001 00000000-0000-4000-8000-000000000002 5 -",
+    "1 spm-start 00000000-0000-4000-8000-000000000002 0 0",
+    "1 create 00000000-0000-4000-8000-000000000201 00000000-0000-4000-8000-000000000002 00000000-0000-4000-8000-000000000003 00000000-0000-4000-8000-000000000101 RAW SPARSE 512 -",
+    "1 open 00000000-0000-4000-8000-000000000002 00000000-0000-4000-8000-000000000003",
+    "1 write 00000000-0000-4000-8000-000000000002 00000000-0000-4000-8000-000000000003 0 512*41",
+    "1 read 00000000-0000-4000-8000-000000000002 00000000-0000-4000-8000-000000000003 0 512",
+];
+
+const RUN_REPLIES: &str = "\
+1 ok
+2 ok
+3 ok 1
+4 ok
+5 ok 00000000-0000-4000-8000-000000000101 512
+6 ok
+7 ok 512*41
+";
+
+// A run takes its lines from the words. The source is a script of another host, and fails in its first read.
+#[test]
+fn runs_of_lines(rt: HostRuntime) -> Result<(), Fail> {
+    let alloc = rt.alloc();
+    let unread = Streams { read: 0, ..SOUND };
+    let full = Streams { write: 1, ..SOUND };
+    let table: [(&[&str], Streams, Status, &str); 6] = [
+        (RUN.as_slice(), unread, Status::Done, RUN_REPLIES),
+        (RUN.as_slice(), full, Status::WriteFault, "1 ok\n"),
+        (&["run", "1 boot"], unread, Status::Done, "1 ok\n"),
+        (
+            &["run", "--moment", "5", "# x", "1 boot", "1 boot"],
+            unread,
+            Status::Refused,
+            "2 ok\n3 refused 14 NotBuilt\n",
+        ),
+        (
+            &["run", "1 boot\n1 boot"],
+            unread,
+            Status::Refused,
+            "1 ok\n2 refused 14 NotBuilt\n",
+        ),
+        (&["run", "--", ""], unread, Status::Done, ""),
+    ];
+    for (words, streams, status, replies) in table {
+        let mut disk = sound_disk(alloc)?;
+        let input = b"2 boot\n".to_vec(alloc)?;
+        let replies = replies.as_bytes();
+        assert!(rt;
+            ends(alloc, &mut disk, words, input, streams, status, replies)?,
+            "{words:?} {status:?}"
+        );
+    }
+    Ok(())
+}
+
+// Words that ask for a session, and words that ask for nothing.
+#[test]
+fn words_and_their_status(rt: HostRuntime) -> Result<(), Fail> {
+    let alloc = rt.alloc();
+    let table: [(&[&str], Status, &str); 12] = [
+        (&["session"], Status::Done, "1 ok\n"),
+        (&["session", "--moment", "5"], Status::Done, "1 ok\n"),
+        (&["session", "--moment=5"], Status::Done, "1 ok\n"),
+        (&[], Status::Words, ""),
+        (&["run"], Status::Words, ""),
+        (&["session", "session"], Status::Words, ""),
+        (&["session", "--moment"], Status::Words, ""),
+        (
+            &["session", "--moment=18446744073709551616"],
+            Status::Words,
+            "",
+        ),
+        (&["session", "--moment=1", "--moment=1"], Status::Words, ""),
+        (&["--help"], Status::Words, ""),
+        (&["dump"], Status::Words, ""),
+        (&["exercise", "1"], Status::Words, ""),
+    ];
+    for (words, status, replies) in table {
+        let mut disk = sound_disk(alloc)?;
+        let input = b"1 boot".to_vec(alloc)?;
+        let replies = replies.as_bytes();
+        assert!(rt;
+            ends(alloc, &mut disk, words, input, SOUND, status, replies)?,
+            "{words:?}"
         );
     }
     Ok(())

@@ -1,4 +1,5 @@
-//! The program `vdsm`: a script over the current folder, with its replies on standard output.
+//! The program `vdsm`: a script of standard input or of its words over the current folder, with the replies on standard
+//! output.
 #![tactic(auto)]
 
 mod files;
