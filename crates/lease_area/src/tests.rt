@@ -27,8 +27,8 @@ fn lease(kind: Kind, owner: u8, version: u64, image: Id) -> Sector {
 }
 
 // What a call came to: the new sector, or the refusal's text.
-fn told(result: Result<Lease, Refusal>) -> Result<LeaseRecord, u16> {
-    match result {
+fn told(answer: Result<Lease, Refusal>) -> Result<LeaseRecord, u16> {
+    match answer {
         Ok(lease) => Ok(lease.record()),
         Err(refusal) => Err(refusal.number()),
     }

@@ -9,7 +9,7 @@ use Rattle.std.proofs.lemmas.Bool.{false≢true}
 use Rattle.std.proofs.lemmas.Bool.Decides.{nat_tests}
 use Rattle.shared_disk.specs.Content.{Content, File, IsLooseAt, Loose, Sees, own_of, seen, sector_of, without}
 use Rattle.shared_disk.specs.Calls.{ReadsAs}
-use Rattle.shared_disk.proofs.Outcomes.{cons_cases, nothing_in, without_keeps}
+use Rattle.shared_disk.proofs.NameOutcomes.{alone_sees}
 use Rattle.whole_file.specs.Text.{HasNoZero, IsTextFile, before_zero, bytes_of, longest, padded, sectors_for, text_of}
 use Rattle.whole_file.proofs.Texts.{length_padded}
 
@@ -78,33 +78,6 @@ bytes_of_more sectors n (suc m) =
     one : (n m : ℕ) → n + suc m ≡ suc (n + m)
     one n m = omega arith
 
-first_or_later : (host k : ℕ) (m : Loose) (ls : List Loose) (l : Loose) (t : Bool) → (m.host == host && m.sector == k) ≡ t → Contains (m ∷ ls) l → l.host ≡ host → l.sector ≡ k
-    → own_of host k (m ∷ ls) ≡ None → (Contains ls l → l.host ≡ host → l.sector ≡ k → own_of host k ls ≡ None → ⊥) → ⊥
-first_or_later host k m ls l true t among by at none more = none-some m.bytes (sym (rw t at none))
-first_or_later host k m ls l false t among by at none more =
-    elim (cons_cases m l ls among) [
-      | inl e ↦ false≢true (sym t ∙ hit m.host m.sector host k (ap (λ (x : Loose). x.host) e ∙ by) (ap (λ (x : Loose). x.sector) e ∙ at))
-      | inr later ↦ more later by at (rw t at none)
-    ]
-  where
-    hit : (a b host k : ℕ) → a ≡ host → b ≡ k → (a == host && b == k) ≡ true
-    hit a b host k x y = rw (eq-eqb a host x, eq-eqb b k y) refl
-
--- a host that has an unsynced write of a sector sees one of its own
-own_is_there : (host k : ℕ) (ls : List Loose) (l : Loose) → Contains ls l → l.host ≡ host → l.sector ≡ k → own_of host k ls ≡ None → ⊥
-own_is_there host k [] l among by at none = nothing_in l among
-own_is_there host k (m ∷ ls) l among by at none = first_or_later host k m ls l (m.host == host && m.sector == k) refl among by at none (own_is_there host k ls l)
-
-whose : (host k : ℕ) (f : File) (l : Loose) (t : Bool) → (l.host == host) ≡ t → without host f.loose ≡ [] → own_of host k f.loose ≡ None → Contains f.loose l → l.sector ≡ k → ⊥
-whose host k f l true t alone none among at = own_is_there host k f.loose l among (eqb-true l.host host t) at none
-whose host k f l false t alone none among at =
-    nothing_in l (subst (λ (ls : List Loose). Contains ls l) alone (without_keeps host f.loose l (λ same. false≢true (sym t ∙ eq-eqb l.host host same)) among))
-
--- where no other host is writing, a host sees one value
-pub sees_one : (host k : ℕ) (f : File) (b : List ℕ) → without host f.loose ≡ [] → Sees host f k b → b ≡ seen host f k
-sees_one host k f b alone (inl is) = is
-sees_one host k f b alone (inr is) = absurd (whose host k f is.1.0 (is.1.0.host == host) refl alone is.0 is.1.1 is.1.2)
-
 -- a file that has a text reads as it
 pub text_read_again : (host : ℕ) (text : List ℕ) (f : File) → HasNoZero text → IsTextFile text f → text_of host f ≡ text
 text_read_again host text f fine is =
@@ -122,7 +95,7 @@ from_zero k = omega arith
 read_front : (host : ℕ) (f : File) (count : ℕ) (before xs : List ℕ) (m : ℕ) → without host f.loose ≡ [] → count ≡ 512 * m → count ≤ length xs → ReadsAs host f 0 count before xs
     → bytes_of (seen host f) m ≡ take count xs
 read_front host f count before xs m alone is fits reads =
-    bytes_of_list (seen host f) xs m (omega (arith, is, fits)) (λ k below. sym (sees_one host k f (sector_of xs k) alone (subst (λ (j : ℕ). Sees host f j (sector_of xs k)) (from_zero k) (reads.sectors k (omega (arith, is, below)))))) ∙ ap (λ (n : ℕ). take n xs) (sym is)
+    bytes_of_list (seen host f) xs m (omega (arith, is, fits)) (λ k below. sym (alone_sees host k f (sector_of xs k) alone (subst (λ (j : ℕ). Sees host f j (sector_of xs k)) (from_zero k) (reads.sectors k (omega (arith, is, below)))))) ∙ ap (λ (n : ℕ). take n xs) (sym is)
 
 -- what a front of the text tells of it
 pub record TellsText (front text : List ℕ) : Type 0 where

@@ -51,7 +51,7 @@ fn replace(disk: &mut Memory, host: HostId, text: &[u8]) -> End {
 fn reads(disk: &mut Memory, host: HostId, text: &[u8]) -> bool {
     let mut room = [0; ROOM];
     match read_text(host, disk, TARGET, &mut room) {
-        Ok(Text::Bytes(length)) => room[..length] == *text,
+        Ok(Text::Bytes(length)) => room[..length] == text[..],
         _ => false,
     }
 }
