@@ -26,12 +26,45 @@ fn lease(kind: Kind, owner: u8, version: u64, image: Id) -> Sector {
     })
 }
 
-// What a call came to: the new sector, or the refusal's text.
+// Takes the sector for the image, or sector 0 for the role: the new lease, or the refusal's number; 0 where the call can't
+// be made so.
+fn ask(
+    host: HostId,
+    up: &UpSet,
+    slot: u16,
+    expect: &Sector,
+    kind: Kind,
+    disk: &mut Memory,
+) -> Result<LeaseRecord, u16> {
+    let expect = match Sector::read(&expect.write()) {
+        Some(sector) => sector,
+        None => return Err(0),
+    };
+    if slot == 0 {
+        return told(take(host, up, SD, 0, &expect, Kind::Guest, Id::ZERO, disk));
+    }
+    if slot >= 1024 {
+        return Err(0);
+    }
+    match kind {
+        Kind::Free => Err(0),
+        Kind::Guest => told(take(host, up, SD, slot, &expect, Kind::Guest, IMAGE, disk)),
+        Kind::Task => told(take(host, up, SD, slot, &expect, Kind::Task, IMAGE, disk)),
+    }
+}
+
+// The new lease, or the refusal's number.
 fn told(answer: Result<Lease, Refusal>) -> Result<LeaseRecord, u16> {
     match answer {
         Ok(lease) => Ok(lease.record()),
         Err(refusal) => Err(refusal.number()),
     }
+}
+
+// A free lease of the image, as it is read.
+fn free_lease(version: u8) -> Result<Sector, Fail> {
+    let bytes = lease(Kind::Free, 0, u64::from(version), IMAGE).write();
+    Ok(Sector::read(&bytes).ok_or("no sector")?)
 }
 
 // A leases file of empty sectors, by host 1, on a disk that fails in this call, from 0; it takes the calls 0 to 3.
@@ -201,7 +234,7 @@ fn each_take(rt: HostRuntime) -> Result<(), Fail> {
         let mut disk = make_leases(rt.alloc(), host, u64::MAX)?;
         put(&mut disk, host, slot, &there)?;
         let image = if slot == 0 { Id::ZERO } else { IMAGE };
-        let got = told(take(host, &up, SD, slot, &expect, kind, image, &mut disk));
+        let got = ask(host, &up, slot, &expect, kind, &mut disk);
         let new = match want {
             Ok((kind, version)) => Ok(LeaseRecord {
                 kind,
@@ -253,7 +286,7 @@ fn two_hosts_race_and_give_up(rt: HostRuntime) -> Result<(), Fail> {
     up.add(one);
     up.add(two);
     let mut disk = make_leases(rt.alloc(), one, u64::MAX)?;
-    let free = lease(Kind::Free, 0, 4, IMAGE);
+    let free = free_lease(4)?;
     put(&mut disk, one, 5, &free)?;
     let held = take(one, &up, SD, 5, &free, Kind::Guest, IMAGE, &mut disk);
     let late = take(two, &up, SD, 5, &free, Kind::Guest, IMAGE, &mut disk);
@@ -263,7 +296,7 @@ fn two_hosts_race_and_give_up(rt: HostRuntime) -> Result<(), Fail> {
         Err(_) => assert!(rt; false),
     }
     assert!(rt; stands(&mut disk, two, 5) == Some(lease(Kind::Free, 0, 5, IMAGE)));
-    let now = lease(Kind::Free, 0, 5, IMAGE);
+    let now = free_lease(5)?;
     match take(two, &up, SD, 5, &now, Kind::Task, IMAGE, &mut disk) {
         Ok(lease) => assert!(rt; lease.clear(two, &mut disk).is_ok()),
         Err(_) => assert!(rt; false),
@@ -277,7 +310,7 @@ fn another_sector_is_found_at_the_release(rt: HostRuntime) -> Result<(), Fail> {
     let host = HostId::new(1).ok_or("1")?;
     let up = UpSet::new();
     let mut disk = make_leases(rt.alloc(), host, u64::MAX)?;
-    let free = lease(Kind::Free, 0, 4, IMAGE);
+    let free = free_lease(4)?;
     put(&mut disk, host, 5, &free)?;
     let held = take(host, &up, SD, 5, &free, Kind::Guest, IMAGE, &mut disk);
     put(&mut disk, host, 5, &lease(Kind::Guest, 9, 6, IMAGE))?;
@@ -297,9 +330,9 @@ fn a_fault_leaves_the_sector_as_it_was(rt: HostRuntime) -> Result<(), Fail> {
     let up = UpSet::new();
     // The calls 0 to 3 make the file, 4 and 5 put the sector, and the exchange is the sixth.
     let mut disk = make_leases(rt.alloc(), host, 6)?;
-    let free = lease(Kind::Free, 0, 4, IMAGE);
+    let free = free_lease(4)?;
     put(&mut disk, host, 5, &free)?;
-    let got = told(take(host, &up, SD, 5, &free, Kind::Guest, IMAGE, &mut disk));
+    let got = ask(host, &up, 5, &free, Kind::Guest, &mut disk);
     assert!(rt; got == Err(120));
     assert!(rt; stands(&mut disk, host, 5) == Some(free));
     Ok(())
