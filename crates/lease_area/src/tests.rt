@@ -1,4 +1,7 @@
 // Each move and each refusal over a disk in memory, two hosts that race for a sector, and a fault in an exchange.
+ghost use Rattle.std.specs.Prelude.{IfSome};
+ghost use Rattle.lease_area.specs.Sector.{IsSector};
+
 use crate::{Kind, Lease, LeaseRecord, Scan, Scanned, Sector, take};
 use sd_names::{Dir, HostId, Id, Name, NoMemory, Place, Refusal, Turn, UpSet};
 use shared_disk::{DiskAnswer, Memory, SharedDisk};
@@ -62,9 +65,10 @@ fn told(answer: Result<Lease, Refusal>) -> Result<LeaseRecord, u16> {
 }
 
 // A free lease of the image, as it is read.
-fn free_lease(version: u8) -> Result<Sector, Fail> {
-    let bytes = lease(Kind::Free, 0, u64::from(version), IMAGE).write();
-    Ok(Sector::read(&bytes).ok_or("no sector")?)
+fn free_lease(version: u8) -> Option<Sector>
+    ensures { IfSome result IsSector }
+{
+    Sector::read(&lease(Kind::Free, 0, u64::from(version), IMAGE).write())
 }
 
 // A leases file of empty sectors, by host 1, on a disk that fails in this call, from 0; it takes the calls 0 to 3.
@@ -286,7 +290,7 @@ fn two_hosts_race_and_give_up(rt: HostRuntime) -> Result<(), Fail> {
     up.add(one);
     up.add(two);
     let mut disk = make_leases(rt.alloc(), one, u64::MAX)?;
-    let free = free_lease(4)?;
+    let free = free_lease(4).ok_or("no sector")?;
     put(&mut disk, one, 5, &free)?;
     let held = take(one, &up, SD, 5, &free, Kind::Guest, IMAGE, &mut disk);
     let late = take(two, &up, SD, 5, &free, Kind::Guest, IMAGE, &mut disk);
@@ -296,7 +300,7 @@ fn two_hosts_race_and_give_up(rt: HostRuntime) -> Result<(), Fail> {
         Err(_) => assert!(rt; false),
     }
     assert!(rt; stands(&mut disk, two, 5) == Some(lease(Kind::Free, 0, 5, IMAGE)));
-    let now = free_lease(5)?;
+    let now = free_lease(5).ok_or("no sector")?;
     match take(two, &up, SD, 5, &now, Kind::Task, IMAGE, &mut disk) {
         Ok(lease) => assert!(rt; lease.clear(two, &mut disk).is_ok()),
         Err(_) => assert!(rt; false),
@@ -310,7 +314,7 @@ fn another_sector_is_found_at_the_release(rt: HostRuntime) -> Result<(), Fail> {
     let host = HostId::new(1).ok_or("1")?;
     let up = UpSet::new();
     let mut disk = make_leases(rt.alloc(), host, u64::MAX)?;
-    let free = free_lease(4)?;
+    let free = free_lease(4).ok_or("no sector")?;
     put(&mut disk, host, 5, &free)?;
     let held = take(host, &up, SD, 5, &free, Kind::Guest, IMAGE, &mut disk);
     put(&mut disk, host, 5, &lease(Kind::Guest, 9, 6, IMAGE))?;
@@ -330,7 +334,7 @@ fn a_fault_leaves_the_sector_as_it_was(rt: HostRuntime) -> Result<(), Fail> {
     let up = UpSet::new();
     // The calls 0 to 3 make the file, 4 and 5 put the sector, and the exchange is the sixth.
     let mut disk = make_leases(rt.alloc(), host, 6)?;
-    let free = free_lease(4)?;
+    let free = free_lease(4).ok_or("no sector")?;
     put(&mut disk, host, 5, &free)?;
     let got = ask(host, &up, 5, &free, Kind::Guest, &mut disk);
     assert!(rt; got == Err(120));
