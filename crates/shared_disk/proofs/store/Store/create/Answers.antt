@@ -1,5 +1,5 @@
-use Rattle.std.proofs.Common.{◌≡◌, true, false, None, is_some, refl, ap, sym, ◌∙◌}
-use Rattle.shared_disk.specs.Store.{found, has_dir, slot, slot_size}
+use Rattle.std.proofs.Common.{◌≡◌, true, false, is_some, refl}
+use Rattle.shared_disk.specs.Store.{found, has_dir}
 use Rattle.shared_disk.proofs.Contents.{is_created, some_of, none_of, none_at}
 use Rattle.shared_disk.proofs.Within.{add_wider, free_stable, log_wider, none_loose, put_housed, stable_wider}
 use Rattle.shared_disk.proofs.store.Store.create.Goals as goal

@@ -1,4 +1,4 @@
-use Rattle.std.proofs.Common.{◌≡◌, ◌==◌, ◌≤◌, not, length, ap, sym, ◌∙◌, arith}
+use Rattle.std.proofs.Common.{◌≡◌, ◌==◌, not, length, ap, ◌∙◌, arith}
 use Rattle.shared_disk.specs.Content.{own_of}
 use Rattle.shared_disk.specs.Sectors.{kept_count, kept_room, sector_at}
 use Rattle.shared_disk.specs.Store.{loose_of}
