@@ -16,6 +16,7 @@ pub mod PutSectors
 pub mod Settling
 pub mod OwnWrites
 pub mod Outcomes
+pub mod Placing
 pub mod AtPlace
 pub mod NameOutcomes
 pub mod Toolkit

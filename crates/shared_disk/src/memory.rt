@@ -1,6 +1,7 @@
 // A shared folder in memory.
-ghost use Rattle.std.specs.Prelude.{◌≡◌, ◌≢◌, ℕ, ◌+◌, ◌-◌, ◌*◌, ◌/◌, ◌^◌, ◌<◌, ◌≤◌, ◌↔◌, min, Some, IfOk, IsErrOf, IsTrue, Contains, if◌then◌else◌, Option};
-ghost use Rattle.shared_disk.specs.Calls.{Told};
+ghost use Rattle.std.specs.Prelude.{◌≡◌, ◌≢◌, ℕ, ◌+◌, ◌-◌, ◌*◌, ◌/◌, ◌^◌, ◌<◌, ◌≤◌, ◌↔◌, min, Some, IfOk, IsErrOf, IsTrue, Contains, if◌then◌else◌, length, Option};
+ghost use Rattle.shared_disk.specs.Calls.{IsAligned, Told};
+ghost use Rattle.shared_disk.specs.Placed.{Places, Tells};
 ghost use Rattle.shared_disk.specs.Content.{Content, IsEmpty};
 
 use crate::picks::{Pick, Picks};
@@ -31,7 +32,7 @@ fn bump(count: &mut u64)
 }
 
 impl Memory {
-    ghost use Rattle.shared_disk.specs.Parts.{content_of_memory, failing_of_memory, room_of_memory};
+    ghost use Rattle.shared_disk.specs.Parts.{IsOnlyStore, content_of_memory, failing_of_memory, room_of_memory, units_of_memory};
 
     /// An empty folder with room for so many units. The calls with the numbers in `failing` fail; the first call has
     /// the number 0.
@@ -55,6 +56,28 @@ impl Memory {
             }),
             Err(_) => Err(NoMemory),
         }
+    }
+
+    /// Makes a file with these bytes on the medium, in place of one that is there, and its folder where that isn't
+    /// there. It takes room for the units that it adds, and is no call. The length of the bytes is a multiple of 512.
+    pub fn put(&mut self, place: Place, bytes: &[u8]) -> Result<(), NoMemory>
+        requires { IsAligned (length bytes.now) }
+        ensures call { Told (content_of_memory self.old) (content_of_memory self.new) (λ d e. Places d place bytes.now result e) }
+        ensures room { room_of_memory self.new ≡ room_of_memory self.old + (units_of_memory self.new - units_of_memory self.old) }
+        ensures kept { IsOnlyStore self.old self.new }
+    {
+        match self.store.put(place, bytes) {
+            Ok(()) => Ok(()),
+            Err(_) => Err(NoMemory),
+        }
+    }
+
+    /// Reads what is on the medium from the byte `at` on, to the end of the file or of `into`, and answers how many bytes
+    /// that is; the rest of `into` is as it was. None where there is no such file. It is no call.
+    pub fn bytes(&self, place: Place, at: u64, into: &mut [u8]) -> Option<usize>
+        ensures { (d : Content) × (content_of_memory self.now ≡ Some d) × Tells d place at into.old into.new result }
+    {
+        self.store.bytes(place, at, into)
     }
 
     // Counts a call, and answers whether it is one that fails.

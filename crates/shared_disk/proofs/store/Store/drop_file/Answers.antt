@@ -46,3 +46,9 @@ invariant_of-self-clause-own_room c =
 
 pub returns-clause-loose : goal.returns-clause-loose
 returns-clause-loose c = λ n apart. ap (λ ws. loose_of n ws) c.forget_file.ensures.items ∙ outside_other c.args.number n c.args.self.now.log.items apart
+
+pub returns-clause-units : goal.returns-clause-units
+returns-clause-units c =
+    let count : kept_count c.swap.new.x ≡ kept_count c.copy_others.new.into = ap kept_count c.swap.ensures.x_after in
+    let fewer = filter_no_more (λ v. not (v.file == c.args.number)) c.args.self.now.log.items c.forget_file.new.log.items c.forget_file.ensures.items in
+    omega (arith, count, fewer, c.copy_others.ensures.count, c.take.ensures.count)
