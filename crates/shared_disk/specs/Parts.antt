@@ -1,5 +1,6 @@
--- What a memory disk shows of itself.
+-- What the memory disks show of themselves.
 use Rattle.std.specs.Prelude.{◌≡◌, ℕ, List, Option, Some}
+use Rattle.shared_disk.specs.declared.honest.Honest.{Honest}
 use Rattle.shared_disk.specs.declared.memory.Memory.{Memory}
 use Rattle.shared_disk.specs.Content.{Content}
 use Rattle.shared_disk.specs.Held.{held, units}
@@ -26,3 +27,13 @@ pub record IsOnlyStore (m n : Memory) : Type 0 where
   pub picks : n.picks ≡ m.picks
   pub calls : n.calls ≡ m.calls
   pub faults : n.faults ≡ m.faults
+
+-- the same of the disk that fails for want of room alone
+abbrev pub content_of_honest : Honest → Option Content
+content_of_honest h = Some (held h.store)
+
+abbrev pub room_of_honest : Honest → ℕ
+room_of_honest h = h.store.room
+
+abbrev pub units_of_honest : Honest → ℕ
+units_of_honest h = units h.store

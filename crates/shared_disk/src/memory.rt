@@ -1,9 +1,10 @@
 // A shared folder in memory.
-ghost use Rattle.std.specs.Prelude.{◌≡◌, ◌≢◌, ℕ, ◌+◌, ◌-◌, ◌*◌, ◌/◌, ◌^◌, ◌<◌, ◌≤◌, ◌↔◌, min, Some, IfOk, IsErrOf, IsTrue, Contains, if◌then◌else◌, length, Option};
+ghost use Rattle.std.specs.Prelude.{◌≡◌, ◌≢◌, ℕ, ◌+◌, ◌-◌, ◌*◌, ◌/◌, ◌^◌, ◌<◌, ◌≤◌, ◌↔◌, min, Some, IfOk, IsTrue, Contains, if◌then◌else◌, length, Option};
 ghost use Rattle.shared_disk.specs.Calls.{IsAligned, Told};
 ghost use Rattle.shared_disk.specs.Placed.{Places, Tells};
 ghost use Rattle.shared_disk.specs.Content.{Content, IsEmpty};
 
+use crate::counts::{bump, count};
 use crate::picks::{Pick, Picks};
 use crate::store::Store;
 use crate::{DiskAnswer, Exchanged, SharedDisk};
@@ -22,13 +23,6 @@ pub struct Memory {
     faults: u64,
     store: Store,
     ghost faults_fit: { faults < 2 ^ 64 },
-}
-
-// One more, up to 2^64 - 1.
-fn bump(count: &mut u64)
-    ensures { count.new ≡ min (count.old + 1) (2 ^ 64 - 1) }
-{
-    *count = count.saturating_add(1);
 }
 
 impl Memory {
@@ -94,19 +88,6 @@ impl Memory {
         }
         listed
     }
-
-    // Counts a fault, where a call found no room.
-    fn count(&mut self, answer: Result<(), DiskAnswer>)
-        ensures calls { self.new.calls ≡ self.old.calls }
-        ensures store { self.new.store ≡ self.old.store }
-        ensures failed { IsErrOf answer DiskAnswer.Failed → self.new.faults ≡ min (self.old.faults + 1) (2 ^ 64 - 1) }
-        ensures other { ¬ IsErrOf answer DiskAnswer.Failed → self.new.faults ≡ self.old.faults }
-        ensures no_less { self.old.faults ≤ self.new.faults }
-    {
-        if let Err(DiskAnswer::Failed) = answer {
-            bump(&mut self.faults);
-        }
-    }
 }
 
 impl SharedDisk for Memory {
@@ -142,7 +123,7 @@ impl SharedDisk for Memory {
             return Err(DiskAnswer::Failed);
         }
         let answer = self.store.write_at(host, place, at, bytes);
-        self.count(answer);
+        count(&mut self.faults, answer);
         answer
     }
 
@@ -158,7 +139,7 @@ impl SharedDisk for Memory {
             return Err(DiskAnswer::Failed);
         }
         let answer = self.store.create(host, place, length);
-        self.count(answer);
+        count(&mut self.faults, answer);
         answer
     }
 
@@ -174,7 +155,7 @@ impl SharedDisk for Memory {
             return Err(DiskAnswer::Failed);
         }
         let answer = self.store.make_dir(dir);
-        self.count(answer);
+        count(&mut self.faults, answer);
         answer
     }
 
@@ -249,7 +230,7 @@ impl SharedDisk for Memory {
             return Err(DiskAnswer::Failed);
         }
         let answer = self.store.exchange(host, place, sector, expect, next);
-        self.count(answer.map(|_| ()));
+        count(&mut self.faults, answer.map(|_| ()));
         answer
     }
 

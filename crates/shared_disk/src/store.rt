@@ -101,6 +101,7 @@ impl Store {
         ensures dirs { IfOk result (λ s. s.dirs.items ≡ []) }
         ensures files { IfOk result (λ s. s.files.slots.items ≡ []) }
         ensures room { IfOk result (λ s. s.room ≡ room) }
+        ensures units { IfOk result (λ s. units s ≡ 0) }
     {
         Ok(Store {
             room,

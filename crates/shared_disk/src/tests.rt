@@ -5,6 +5,7 @@ use sd_names::{Dir, HostId, Id, Name, Place};
 use std::test::Fail;
 
 mod down;
+mod honest;
 mod medium;
 mod names;
 mod room;
@@ -48,19 +49,29 @@ fn place(name: Name) -> Place {
     }
 }
 
-fn read(disk: &mut Memory, host: HostId, name: Name, sector: u8) -> Result<u64, DiskAnswer> {
+fn read<D: SharedDisk>(
+    disk: &mut D,
+    host: HostId,
+    name: Name,
+    sector: u8,
+) -> Result<u64, DiskAnswer> {
     let mut into = [255; 512];
     disk.read_at(host, place(name), 512 * sector as u64, &mut into)?;
     Ok(into[511] as u64)
 }
 
-fn count(disk: &mut Memory, host: HostId, name: Name, sector: u8) -> Result<u64, DiskAnswer> {
+fn count<D: SharedDisk>(
+    disk: &mut D,
+    host: HostId,
+    name: Name,
+    sector: u8,
+) -> Result<u64, DiskAnswer> {
     let mut into = [255; 2048];
     Ok(disk.read_at(host, place(name), 512 * sector as u64, &mut into)? as u64)
 }
 
-fn write(
-    disk: &mut Memory,
+fn write<D: SharedDisk>(
+    disk: &mut D,
     host: HostId,
     name: Name,
     sector: u8,
@@ -70,8 +81,8 @@ fn write(
     Ok(0)
 }
 
-fn exchange(
-    disk: &mut Memory,
+fn exchange<D: SharedDisk>(
+    disk: &mut D,
     host: HostId,
     name: Name,
     sector: u8,
@@ -90,7 +101,7 @@ fn exchange(
     }
 }
 
-fn rename_text(disk: &mut Memory, host: HostId) -> Result<(), DiskAnswer> {
+fn rename_text<D: SharedDisk>(disk: &mut D, host: HostId) -> Result<(), DiskAnswer> {
     let from = Place {
         dir: Dir::DomMd(Id::ZERO),
         name: Name::Metadata,
@@ -98,7 +109,7 @@ fn rename_text(disk: &mut Memory, host: HostId) -> Result<(), DiskAnswer> {
     disk.rename(host, from, Name::MetadataNew)
 }
 
-fn move_image(disk: &mut Memory, host: HostId) -> Result<(), DiskAnswer> {
+fn move_image<D: SharedDisk>(disk: &mut D, host: HostId) -> Result<(), DiskAnswer> {
     disk.move_dir(
         host,
         Dir::Image(Id::ZERO, Id::ZERO),
@@ -106,7 +117,7 @@ fn move_image(disk: &mut Memory, host: HostId) -> Result<(), DiskAnswer> {
     )
 }
 
-fn made(disk: &mut Memory, host: HostId, call: Call) -> Result<u64, DiskAnswer> {
+fn made<D: SharedDisk>(disk: &mut D, host: HostId, call: Call) -> Result<u64, DiskAnswer> {
     match call {
         Call::Grow(name, sectors) => disk.grow(host, place(name), 512 * sectors as u64)?,
         Call::Remove(name) => disk.remove(host, place(name))?,
