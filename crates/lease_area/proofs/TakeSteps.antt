@@ -17,15 +17,15 @@ use Rattle.shared_disk.specs.Changes.{apart_from, exchanged}
 use Rattle.shared_disk.specs.Content.{Content, File, IsLooseAt, Loose, Sees, own_of, seen}
 use Rattle.shared_disk.specs.Crash.{IsSettled}
 use Rattle.shared_disk.specs.Places.{id_is, place_is}
-use Rattle.shared_disk.specs.Refusal.{refusal_of}
+use Rattle.shared_disk.specs.Refusal.{IsRisen, refusal_of}
 use Rattle.shared_disk.specs.SectorCalls.{Exchanges, IsExchanged, IsFound}
 use Rattle.shared_disk.specs.declared.disk.DiskAnswer.{DiskAnswer}
 use Rattle.shared_disk.specs.declared.disk.Exchanged.{Exchanged}
 use Rattle.shared_disk.specs.declared.disk.Exchanged.TheVariants.{Done, Found}
 use Rattle.shared_disk.specs.declared.disk.DiskAnswer.TheVariants.{NoFile, Exists, OutOfFile, NotEmpty, Failed}
-use Rattle.shared_disk.proofs.Outcomes.{nothing_in}
-use Rattle.shared_disk.proofs.Places.{place_is-itself, place_is-same}
-use Rattle.lease_area.specs.Hold.{IsMoved, IsRisen, Stands, image_refusal, leases_of, met_answer, role_refusal, take_answer, take_refusal}
+use Rattle.shared_disk.proofs.AtPlace.{one_file, put_same_file}
+use Rattle.shared_disk.proofs.Toolkit.{exchanged_same, sees_settled}
+use Rattle.lease_area.specs.Hold.{IsMoved, Stands, image_refusal, leases_of, met_answer, role_refusal, take_answer, take_refusal}
 use Rattle.lease_area.specs.Move.{IsFreed, IsTaken, LeaseMove, RoleMove, TaskMove, image_taken, is_open, is_task, made_by, may_take, next_sector, owner_of, role_taken, taken, taken_by, version_of}
 use Rattle.lease_area.specs.Sector.{sector_bytes, sector_in}
 use Rattle.lease_area.specs.declared.sector.Kind.{Kind}
@@ -33,33 +33,6 @@ use Rattle.lease_area.specs.declared.sector.Kind.TheVariants.{Free, Guest, Task}
 use Rattle.lease_area.specs.declared.sector.LeaseRecord.{LeaseRecord}
 use Rattle.lease_area.specs.declared.sector.Sector.{Sector}
 use Rattle.lease_area.specs.declared.sector.Sector.TheVariants.{Empty, Lease}
-
--- what a host sees of a file with nothing unsynced
-sees_settled : (host k : ℕ) (f : File) (b : List ℕ) → IsSettled f → Sees host f k b → b ≡ f.stable k
-sees_settled host k f b settled (inl is) = is ∙ ap (λ (ls : List Loose). unwrap_or (own_of host k ls) (f.stable k)) settled.loose
-sees_settled host k f b settled (inr is) = absurd (nothing_in is.1.0 (subst (λ (ls : List Loose). Contains ls is.1.0) settled.loose is.1.1))
-
--- an exchange of a sector for itself changes nothing
-sector_same : (slot k : ℕ) (f : File) (bytes : List ℕ) (t : Bool) → (k == slot) ≡ t → f.stable slot ≡ bytes → (exchanged slot bytes f).stable k ≡ f.stable k
-sector_same slot k f bytes true t is = rw t (sym is ∙ ap (λ (j : ℕ). f.stable j) (sym (eqb-true k slot t)))
-sector_same slot k f bytes false t is = rw t refl
-
-exchanged_same : (slot : ℕ) (f : File) (bytes : List ℕ) → IsSettled f → f.stable slot ≡ bytes → exchanged slot bytes f ≡ f
-exchanged_same slot f bytes settled is =
-    let loose : apart_from slot f.loose ≡ f.loose = ap (λ (ls : List Loose). apart_from slot ls) settled.loose ∙ sym settled.loose in
-    λ i. record { size = f.size; stable = λ k. sector_same slot k f bytes (k == slot) refl is i; loose = loose i; fresh = f.fresh }
-
-file_same : (d e : Content) (p q : Place) (t : Bool) → place_is q p ≡ t → IsPut d p (d.file p) e → e.file q ≡ d.file q
-file_same d e p q true t put = let same = place_is-same q p t in ap (λ (x : Place). e.file x) same ∙ put.here ∙ ap (λ (x : Place). d.file x) (sym same)
-file_same d e p q false t put = put.others q (λ same. false≢true (sym t ∙ ap (λ (x : Place). place_is x p) same ∙ place_is-itself p))
-
-put_same : (d e : Content) (p : Place) (f g : File) → d.file p ≡ Some f → g ≡ f → IsPut d p (Some g) e → e ≡ d
-put_same d e p f g there same put =
-    let back : IsPut d p (d.file p) e = subst (λ (o : Option File). IsPut d p o e) (ap (λ (x : File). Some x) same ∙ sym there) put in
-    λ i. record { dir = λ q. put.dirs q i; file = λ q. file_same d e p q (place_is q p) refl back i }
-
-one_file : (f g : File) (o : Option File) → o ≡ Some f → o ≡ Some g → f ≡ g
-one_file f g o first second = ap (λ (x : Option File). unwrap_or x f) (sym first ∙ second)
 
 -- the bytes that an exchange saw are those that stand there
 stood : (d : Content) (sd : Id) (host slot : ℕ) (bytes b : List ℕ) (f : File) → Stands d sd slot bytes → d.file (leases_of sd) ≡ Some f → Sees host f slot b → b ≡ bytes
@@ -73,7 +46,7 @@ kept d e sd host slot bytes b stands is =
     let f = is.0 in
     let same : stands.file ≡ f = one_file stands.file f (d.file (leases_of sd)) stands.there is.1 in
     let settled : IsSettled f = subst IsSettled same stands.settled in
-    put_same d e (leases_of sd) f (exchanged slot b f) is.1 (exchanged_same slot f b settled (sym (sees_settled host slot f b settled is.3))) is.4
+    put_same_file d e (leases_of sd) f (exchanged slot b f) is.1 (exchanged_same slot f b settled (sym (sees_settled host slot f b settled is.3))) is.4
 
 -- the answer, where the expected sector stands there, and where another one does
 met : (up : Hosts) (host slot : ℕ) (kind : Kind) (image : Id) (expect : Sector) (bytes : List ℕ) → sector_bytes expect ≡ bytes

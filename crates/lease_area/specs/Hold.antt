@@ -7,8 +7,8 @@ use Rattle.sd_names.specs.declared.place.Dir.TheVariants.{DomMd}
 use Rattle.sd_names.specs.declared.place.Name.TheVariants.{Leases}
 use Rattle.sd_names.specs.declared.place.Place.{Place}
 use Rattle.sd_names.specs.declared.refusal.Refusal.{Refusal}
-use Rattle.sd_names.specs.declared.refusal.Refusal.TheVariants.{DiskFault, ImageHeld, LeaseCorrupt, LverMismatch, NoImage, PrevMismatch, SpmHeld, Vanished}
-use Rattle.shared_disk.specs.Calls.{IsPut, IsSame, Rose}
+use Rattle.sd_names.specs.declared.refusal.Refusal.TheVariants.{DiskFault, ImageHeld, LeaseCorrupt, LverMismatch, NoImage, PrevMismatch, SpmHeld}
+use Rattle.shared_disk.specs.Calls.{IsPut, IsSame}
 use Rattle.shared_disk.specs.Changes.{exchanged}
 use Rattle.shared_disk.specs.Content.{Content, File}
 use Rattle.shared_disk.specs.Crash.{IsSettled}
@@ -106,8 +106,3 @@ GivesUp lease new faults bytes (Err refusal) d e =
 pub record OneExchange (faults faults' calls calls' : ℕ) : Type 0 where
   pub one_call : calls' ≤ calls + 1
   pub no_less : faults ≤ faults'
-
--- a fault is answered only where the count rose
-abbrev pub IsRisen : ℕ → ℕ → Refusal → Type 0
-IsRisen before after (DiskFault n) = Rose before after × (n ≡ after)
-IsRisen before after _ = Unit {0}

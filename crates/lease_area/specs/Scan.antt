@@ -8,7 +8,8 @@ use Rattle.shared_disk.specs.Calls.{IsSame, ReadsAs}
 use Rattle.shared_disk.specs.Content.{Content, File}
 use Rattle.shared_disk.specs.Refusal.{refusal_of}
 use Rattle.shared_disk.specs.declared.disk.DiskAnswer.TheVariants.{NoFile}
-use Rattle.lease_area.specs.Hold.{IsRisen, leases_of}
+use Rattle.lease_area.specs.Hold.{leases_of}
+use Rattle.shared_disk.specs.Refusal.{IsRisen}
 use Rattle.lease_area.specs.Noted.{noted, sectors_of_step}
 use Rattle.lease_area.specs.declared.scan.Scan.{Scan}
 use Rattle.lease_area.specs.declared.scanned.Scanned.{Scanned}

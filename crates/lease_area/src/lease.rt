@@ -22,7 +22,8 @@ impl Lease {
     ghost use Rattle.sd_names.specs.UpSet.{Hosts};
     ghost use Rattle.lease_area.specs.Move.{LeaseMove, freed, is_task};
     ghost use Rattle.lease_area.specs.declared.sector.Sector.TheVariants.{Empty, Lease as OfImage};
-    ghost use Rattle.lease_area.specs.Hold.{GivesUp, IsRisen, OneExchange, Stands, domain_of, record_of, slot_of};
+    ghost use Rattle.lease_area.specs.Hold.{GivesUp, OneExchange, Stands, domain_of, record_of, slot_of};
+    ghost use Rattle.shared_disk.specs.Refusal.{IsRisen};
 
     /// The sector's number.
     pub fn slot(&self) -> u16

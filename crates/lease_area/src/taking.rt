@@ -1,7 +1,8 @@
 // Taking a lease, by one exchange.
 ghost use Rattle.std.specs.Prelude.{◌≡◌, ◌≢◌, ◌<◌, ℕ, List, IfErr, IfOk, IfSome};
 ghost use Rattle.shared_disk.specs.Calls.{Told};
-ghost use Rattle.lease_area.specs.Hold.{IsRisen, OneExchange, Stands, Takes, domain_of, record_of, slot_of};
+ghost use Rattle.lease_area.specs.Hold.{OneExchange, Stands, Takes, domain_of, record_of, slot_of};
+ghost use Rattle.shared_disk.specs.Refusal.{IsRisen};
 ghost use Rattle.lease_area.specs.Move.{LeaseMove, image_taken, is_task, next_sector, no_image, role_taken, taken, taken_by};
 ghost use Rattle.lease_area.specs.Sector.{IsSector};
 ghost use Rattle.lease_area.specs.declared.sector.Kind.TheVariants.{Free, Guest};

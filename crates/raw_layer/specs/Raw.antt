@@ -2,13 +2,13 @@
 use Rattle.std.specs.Prelude.{◌≡◌, ◌⊎◌, ℕ, ◌+◌, ◌*◌, ◌/◌, ◌<◌, ◌≤◌, List, length, Result, MatchResult, Some, None, nat_le, MatchBool}
 use Rattle.sd_names.specs.declared.place.Place.{Place}
 use Rattle.sd_names.specs.declared.refusal.Refusal.{Refusal}
-use Rattle.sd_names.specs.declared.refusal.Refusal.TheVariants.{DiskFault, Vanished, NoRoom}
+use Rattle.sd_names.specs.declared.refusal.Refusal.TheVariants.{DiskFault, NoRoom}
 use Rattle.sd_names.specs.declared.turn.Turn.{Turn}
 use Rattle.sd_names.specs.declared.turn.Turn.TheVariants.{Done, Ended}
 use Rattle.sd_names.specs.Turn.{MatchTurn}
 use Rattle.shared_disk.specs.Content.{Content, File, Sees, sector_of, zero_sector}
-use Rattle.shared_disk.specs.Calls.{IsSame, WriteAt, Syncs, HasLength, Rose}
-use Rattle.shared_disk.specs.Refusal.{refusal_of}
+use Rattle.shared_disk.specs.Calls.{IsSame, WriteAt, Syncs, HasLength}
+use Rattle.shared_disk.specs.Refusal.{IsDiskRefusal, refusal_of}
 use Rattle.shared_disk.specs.declared.disk.DiskAnswer.{DiskAnswer}
 use Rattle.shared_disk.specs.declared.disk.DiskAnswer.TheVariants.{NoFile}
 use Rattle.raw_layer.specs.Place.{volume_of}
@@ -118,12 +118,10 @@ pub record Nears (w next : RawWrite) : Type 0 where
 abbrev pub GoesToEnd : RawWrite → Turn RawWrite (Unit {0}) (Unit {0}) → Type 0
 GoesToEnd w turn = MatchTurn turn (λ next. Nears w next) (λ _. Unit {0}) (λ _ _. Unit {0})
 
--- A refusal of a raw file is one of three: for want of room, an absence, or a fault with the new count, which rose.
+-- a refusal of a raw file: for want of room, or one that stands for an answer of the disk
 abbrev pub IsCause : ℕ → ℕ → Refusal → Type 0
-IsCause before after (DiskFault n) = Rose before after × (n ≡ after)
-IsCause before after (Vanished a) = Unit {0}
 IsCause before after (NoRoom v room wanted) = Unit {0}
-IsCause before after _ = ⊥
+IsCause before after refusal = IsDiskRefusal before after refusal
 
 -- what a step does to the counts of the disk, whatever the disk tells
 pub record Counts {T : Type 0} (faults faults' calls calls' : ℕ) (turn : Turn T (Unit {0}) (Unit {0})) : Type 0 where

@@ -1,5 +1,5 @@
 -- What the content of a store is after a folder or a file is added, and after a write.
-use Rattle.std.proofs.Common.{◌≡◌, ◌≢◌, ℕ, suc, ◌+◌, ◌-◌, ◌<◌, ◌≤◌, ◌==◌, ◌||◌, Bool, true, false, if◌then◌else◌, List, [], ◌∷◌, ◌++◌, length, get_or, drop, drop-cons, reverse, Option, Some, None, is_some, unwrap_or, eq-eqb, eqb-true, refl, sym, ap, ◌∙◌, arith, add-one, subst}
+use Rattle.std.proofs.Common.{◌≡◌, ◌≢◌, ℕ, suc, ◌+◌, ◌<◌, ◌==◌, ◌||◌, Bool, true, false, if◌then◌else◌, List, [], ◌∷◌, ◌++◌, length, get_or, drop, drop-cons, reverse, Option, Some, None, is_some, unwrap_or, eq-eqb, eqb-true, refl, sym, ap, ◌∙◌, add-one, subst}
 use Rattle.std.specs.Option.{option_map}
 use Rattle.std.specs.List.{list_any}
 use Rattle.std.proofs.lemmas.Bool.{false≢true}
@@ -12,7 +12,7 @@ use Rattle.shared_disk.specs.declared.entry.FileEntry.{FileEntry}
 use Rattle.shared_disk.specs.declared.entry.Write.{Write}
 use Rattle.shared_disk.specs.declared.sector_map.Sectors.{Sectors}
 use Rattle.shared_disk.specs.Content.{File, Loose, IsEmpty, zero_sector, writes, sector_of}
-use Rattle.shared_disk.specs.Calls.{IsPut, IsDirPut, created, wrote, sectors_in}
+use Rattle.shared_disk.specs.Calls.{IsPut, IsDirPut, wrote, sectors_in}
 use Rattle.shared_disk.specs.Places.{dir_is}
 use Rattle.shared_disk.specs.Sectors.{sector_at}
 use Rattle.shared_disk.specs.Store.{AreApart, IsSlotPut, has_dir, found, loose_in, loose_of, file_of, content_of, slot}
@@ -146,11 +146,11 @@ is_put dirs dirs1 files files1 stable stable1 log log1 p number f f1 new folders
     }
 
 -- a file that is added
-pub is_created : (dirs dirs1 : List Dir) (files files1 : List (Option FileEntry)) (stable stable1 : Sectors) (log log1 : List Write) (number host : ℕ) (f : FileEntry)
+pub is_created : (dirs dirs1 : List Dir) (files files1 : List (Option FileEntry)) (stable stable1 : Sectors) (log log1 : List Write) (number : ℕ) (maker : Option ℕ) (f : FileEntry)
     → dirs1 ≡ dirs → stable1 ≡ stable → log1 ≡ log → AreApart files1 → slot number files ≡ None → IsSlotPut number (Some f) files files1
-    → ((k : ℕ) → sector_at stable 0 number k ≡ None) → loose_of number log ≡ [] → f.fresh ≡ Some host → found f.place 0 files ≡ None
-    → IsPut (content_of dirs files stable log) f.place (Some (created host f.size)) (content_of dirs1 files1 stable1 log1)
-is_created dirs dirs1 files files1 stable stable1 log log1 number host f folders sectors writes apart free put no_stable no_log fresh none = record {
+    → ((k : ℕ) → sector_at stable 0 number k ≡ None) → loose_of number log ≡ [] → f.fresh ≡ maker → found f.place 0 files ≡ None
+    → IsPut (content_of dirs files stable log) f.place (Some (record { size = f.size; stable = λ _. zero_sector; loose = []; fresh = maker })) (content_of dirs1 files1 stable1 log1)
+is_created dirs dirs1 files files1 stable stable1 log log1 number maker f folders sectors writes apart free put no_stable no_log fresh none = record {
   dirs = λ q. ap (λ (ds : List Dir). has_dir ds q) folders;
   here =
       let at : found f.place 0 files1 ≡ Some (number, f) = found_at f.place files1 number f apart (put_here number (Some f) files files1 put) refl in

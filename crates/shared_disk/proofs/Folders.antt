@@ -1,8 +1,7 @@
 -- What the content of a store is after a folder is removed, and after one is moved.
-use Rattle.std.proofs.Common.{◌≡◌, ◌≢◌, ◌⊎◌, ℕ, ◌≤◌, ◌||◌, Bool, true, false, not, if◌then◌else◌, List, [], ◌∷◌, map, Option, Some, None, is_some, unwrap_or, refl, sym, ap, subst, ◌∙◌, inl, inr, arith}
+use Rattle.std.proofs.Common.{◌≡◌, ◌≢◌, ◌⊎◌, ℕ, ◌≤◌, ◌||◌, Bool, true, false, not, List, [], ◌∷◌, map, Option, Some, None, is_some, refl, sym, ap, subst, ◌∙◌, inl, inr, arith}
 use Rattle.std.specs.List.{filter, list_any}
 use Rattle.std.specs.Option.{option_map}
-use Rattle.std.proofs.lemmas.Option.{none-some, same_Some}
 use Rattle.std.proofs.lemmas.Bool.{false≢true}
 use Rattle.sd_names.specs.declared.place.Dir.{Dir}
 use Rattle.sd_names.specs.declared.place.Dir.TheVariants.{Root, Image, Removed}
@@ -12,15 +11,14 @@ use Rattle.shared_disk.specs.declared.entry.FileEntry.{FileEntry}
 use Rattle.shared_disk.specs.declared.entry.Write.{Write}
 use Rattle.shared_disk.specs.declared.sector_map.Sectors.{Sectors}
 use Rattle.shared_disk.specs.Calls.{IsDirPut}
-use Rattle.shared_disk.specs.Content.{Content, zero_sector}
+use Rattle.shared_disk.specs.Content.{Content}
 use Rattle.shared_disk.specs.Files.{entry_moved}
 use Rattle.shared_disk.specs.Listing.{IsLeastDir, IsLeastName, dir_moved}
-use Rattle.shared_disk.specs.NameCalls.{AnswersDirAbove, AnswersNameAbove, AreImageDirs, HasEntry, IsDirMoved, IsDirRemoved, IsNextDir, IsNextName, place_in}
+use Rattle.shared_disk.specs.NameCalls.{AnswersDirAbove, AnswersNameAbove, AreImageDirs, HasEntry, IsDirMoved, IsNextDir, IsNextName, place_in}
 use Rattle.shared_disk.specs.Places.{dir_is}
-use Rattle.shared_disk.specs.Sectors.{sector_at}
-use Rattle.shared_disk.specs.Store.{AreApart, AreHoused, content_of, file_of, found, has_dir, loose_of, slot, slot_size}
+use Rattle.shared_disk.specs.Store.{AreApart, AreHoused, content_of, file_of, found, has_dir, slot, slot_size}
 use Rattle.shared_disk.proofs.Contents.{Carries, carried, none_at, or_true}
-use Rattle.shared_disk.proofs.Places.{dir_is-apart, dir_is-itself, dir_is-same, not_false}
+use Rattle.shared_disk.proofs.Places.{dir_is-apart, dir_is-itself, dir_is-same}
 use Rattle.shared_disk.proofs.Listed.{slot_in}
 use Rattle.shared_disk.proofs.Slots.{found_gone, slot_map, slot_mapped}
 

@@ -16,4 +16,8 @@ pub mod PutSectors
 pub mod Settling
 pub mod OwnWrites
 pub mod Outcomes
+pub mod Placing
+pub mod AtPlace
 pub mod NameOutcomes
+pub mod Toolkit
+pub mod FolderOutcomes

@@ -1,28 +1,17 @@
 -- The outcomes of a folder after a rename and after a removal, and what a host that has nothing unsynced in a file leaves.
-use Rattle.std.proofs.Common.{◌≡◌, ◌≢◌, ℕ, ◌==◌, ◌&&◌, Bool, true, false, if◌then◌else◌, List, [], ◌∷◌, Option, Some, None, eq-eqb, eqb-true, refl, sym, ap, subst, ◌∙◌, inl, inr}
+use Rattle.std.proofs.Common.{◌≡◌, ◌≢◌, ℕ, ◌==◌, Bool, true, false, if◌then◌else◌, List, [], ◌∷◌, Option, Some, None, eq-eqb, eqb-true, refl, sym, ap, subst, ◌∙◌, inl, inr}
 use Rattle.std.specs.List.{Contains}
-use Rattle.std.specs.Option.{option_map}
 use Rattle.std.proofs.lemmas.Bool.{false≢true}
-use Rattle.std.proofs.lemmas.Option.{none-some, same_Some}
+use Rattle.std.proofs.lemmas.Option.{none-some}
 use Rattle.sd_names.specs.declared.place.Place.{Place}
 use Rattle.shared_disk.specs.Calls.{IsPut}
-use Rattle.shared_disk.specs.Content.{Content, File, Loose, IsLooseAt, Sees, own_of, seen, unless_by, without}
-use Rattle.shared_disk.specs.Crash.{DownLeaves, IsAlso, IsDownFile, IsDownSector, IsFileOutcome, IsFreshBy, IsOutcome, stable_file, stable_folder, with_file}
+use Rattle.shared_disk.specs.Content.{Content, File, Loose, Sees, own_of, seen, unless_by, without}
+use Rattle.shared_disk.specs.Crash.{IsAlso, IsDownFile, IsDownSector, IsFileOutcome, IsOutcome, stable_folder, with_file}
 use Rattle.shared_disk.specs.NameCalls.{IsRenamed}
 use Rattle.shared_disk.specs.Places.{place_is}
+use Rattle.shared_disk.proofs.AtPlace.{also_none, also_some}
 use Rattle.shared_disk.proofs.Outcomes.{cons_cases, contains_here, contains_more, frame, nothing_in, stable_folder_outcome, with_outcome, without_keeps}
-use Rattle.shared_disk.proofs.Places.{not_false, place_is-apart, place_is-itself, place_is-same}
-
--- what stands at a place on an outcome
-also_some : (R : File → File → Type 0) (a b : Option File) (f : File) → IsAlso R a b → a ≡ Some f → (g : File) × (b ≡ Some g) × R f g
-also_some R None b f w e = absurd (none-some f e)
-also_some R (Some h) None f w e = absurd w
-also_some R (Some h) (Some g) f w e = (g, refl, subst (λ (x : File). R x g) (same_Some h f e) w)
-
-also_none : (R : File → File → Type 0) (a b : Option File) → IsAlso R a b → a ≡ None → b ≡ None
-also_none R None None w e = refl
-also_none R None (Some g) w e = absurd w
-also_none R (Some f) b w e = absurd (none-some f (sym e))
+use Rattle.shared_disk.proofs.Places.{place_is-apart, place_is-itself, place_is-same}
 
 -- the folder before a rename: the file at its old name, and what was to go at the new one
 renamed_back : Place → Place → Content → Content → Content

@@ -10,7 +10,7 @@ use Rattle.shared_disk.specs.declared.entry.Write.{Write}
 use Rattle.shared_disk.specs.declared.sector_map.Sectors.{Sectors}
 use Rattle.shared_disk.specs.Calls.{IsPut}
 use Rattle.shared_disk.specs.Changes.{apart_from, exchanged, grown, raised}
-use Rattle.shared_disk.specs.Content.{Loose, zero_sector}
+use Rattle.shared_disk.specs.Content.{zero_sector}
 use Rattle.shared_disk.specs.Sectors.{sector_at}
 use Rattle.shared_disk.specs.Store.{AreApart, IsStableWithin, apart_of, content_of, file_of, found, is_at, loose_in, loose_of, slot, slot_size}
 use Rattle.shared_disk.proofs.Contents.{is_put}

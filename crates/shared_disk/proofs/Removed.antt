@@ -1,5 +1,5 @@
 -- What is left of a store when a file is taken away.
-use Rattle.std.proofs.Common.{◌≡◌, ◌≢◌, ℕ, ◌<◌, ◌≤◌, ◌==◌, Bool, true, false, not, if◌then◌else◌, List, [], ◌∷◌, reverse, Option, Some, None, unwrap_or, eq-eqb, eqb-true, refl, sym, ap, subst, ◌∙◌, arith}
+use Rattle.std.proofs.Common.{◌≡◌, ◌≢◌, ℕ, ◌<◌, ◌≤◌, ◌==◌, Bool, true, false, not, if◌then◌else◌, List, [], ◌∷◌, reverse, Option, Some, None, unwrap_or, eq-eqb, eqb-true, refl, sym, ap, subst, ◌∙◌}
 use Rattle.std.specs.List.{Contains, filter}
 use Rattle.std.proofs.lemmas.Option.{none-some, same_Some}
 use Rattle.std.proofs.lemmas.Bool.{false≢true}
@@ -10,10 +10,9 @@ use Rattle.shared_disk.specs.declared.entry.Write.{Write}
 use Rattle.shared_disk.specs.declared.sector_map.Sectors.{Sectors}
 use Rattle.shared_disk.specs.Content.{Loose, zero_sector}
 use Rattle.shared_disk.specs.Sectors.{sector_at}
-use Rattle.shared_disk.specs.Store.{AreApart, AreHoused, IsCleared, IsLogWithin, IsSlotPut, IsStableWithin, file_of, found, has_dir, loose_in, loose_of, outside_of, slot, slot_size}
+use Rattle.shared_disk.specs.Store.{AreApart, AreHoused, IsCleared, IsLogWithin, IsSlotPut, IsStableWithin, found, loose_in, loose_of, outside_of, slot, slot_size}
 use Rattle.shared_disk.proofs.Outcomes.{nothing_in}
-use Rattle.shared_disk.proofs.Places.{not_false}
-use Rattle.shared_disk.proofs.Slots.{found_none, found_slot, put_here, put_other}
+use Rattle.shared_disk.proofs.Slots.{found_none, found_slot, put_other}
 use Rattle.shared_disk.proofs.Synced.{filter-reverse}
 use Rattle.shared_disk.proofs.Within.{part_among}
 

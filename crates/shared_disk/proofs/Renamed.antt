@@ -1,6 +1,6 @@
 -- What the content of a store is after a file is removed, and after it is renamed.
-use Rattle.std.proofs.Common.{◌≡◌, ◌≢◌, ℕ, ◌==◌, Bool, true, false, if◌then◌else◌, List, Option, Some, None, unwrap_or, eq-eqb, eqb-true, refl, sym, ap, subst, ◌∙◌}
-use Rattle.std.proofs.lemmas.Option.{none-some, same_Some}
+use Rattle.std.proofs.Common.{◌≡◌, ◌≢◌, ℕ, ◌==◌, Bool, true, false, List, Option, Some, None, unwrap_or, eq-eqb, refl, sym, ap, ◌∙◌}
+use Rattle.std.proofs.lemmas.Option.{same_Some}
 use Rattle.std.proofs.lemmas.Bool.{false≢true}
 use Rattle.sd_names.specs.declared.place.Dir.{Dir}
 use Rattle.sd_names.specs.declared.place.Place.{Place}
@@ -12,7 +12,7 @@ use Rattle.shared_disk.specs.Content.{File, zero_sector}
 use Rattle.shared_disk.specs.NameCalls.{IsRenamed}
 use Rattle.shared_disk.specs.Sectors.{sector_at}
 use Rattle.shared_disk.specs.Store.{AreApart, IsCleared, IsSlotPut, content_of, file_of, found, has_dir, loose_of, slot}
-use Rattle.shared_disk.proofs.Contents.{Carries, carried, file_at, none_at}
+use Rattle.shared_disk.proofs.Contents.{carried, file_at, none_at}
 use Rattle.shared_disk.proofs.Slots.{found_at, found_gone, found_slot, put_here, put_other}
 
 -- a file that is removed

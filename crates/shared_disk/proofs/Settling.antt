@@ -1,22 +1,20 @@
 -- What the sectors on the medium and the content of a store are after a host went down.
-use Rattle.std.proofs.Common.{◌≡◌, ◌≢◌, ◌⊎◌, ℕ, ◌+◌, ◌<◌, ◌≤◌, ◌==◌, ◌&&◌, Bool, true, false, not, cond, if◌then◌else◌, List, [], ◌∷◌, length, get_or, map, reverse, take, replicate, Option, Some, None, All, unwrap_or, eq-eqb, eqb-true, refl, sym, ap, subst, ◌∙◌, inl, inr, arith}
-use Rattle.std.specs.List.{Contains, filter}
+use Rattle.std.proofs.Common.{◌≡◌, ◌⊎◌, ℕ, ◌<◌, ◌≤◌, ◌==◌, ◌&&◌, Bool, true, false, not, if◌then◌else◌, List, [], ◌∷◌, map, reverse, replicate, Option, Some, None, unwrap_or, refl, sym, ap, subst, ◌∙◌, inl, inr, arith}
+use Rattle.std.specs.List.{filter}
 use Rattle.std.specs.Option.{option_map}
-use Rattle.std.proofs.lemmas.Bool.{false≢true}
 use Rattle.std.proofs.lemmas.List.{get_or-replicate, length-replicate}
-use Rattle.std.proofs.lemmas.Option.{none-some, same_Some}
+use Rattle.std.proofs.lemmas.Option.{same_Some}
 use Rattle.sd_names.specs.declared.place.Dir.{Dir}
 use Rattle.sd_names.specs.declared.place.Place.{Place}
 use Rattle.shared_disk.specs.declared.entry.FileEntry.{FileEntry}
 use Rattle.shared_disk.specs.declared.entry.Write.{Write}
 use Rattle.shared_disk.specs.declared.sector_map.Sectors.{Sectors}
-use Rattle.shared_disk.specs.Content.{File, Loose, own_of, without, unless_by, zero_sector}
+use Rattle.shared_disk.specs.Content.{own_of, without, zero_sector}
 use Rattle.shared_disk.specs.Crash.{DownLeaves, IsAlso, IsDownFile, IsDownSector, IsSector}
 use Rattle.shared_disk.specs.Files.{entry_synced}
-use Rattle.shared_disk.specs.Sectors.{key_eq, sector_at}
-use Rattle.shared_disk.specs.Settled.{IsFreshSlot, IsPicked, IsSettling}
+use Rattle.shared_disk.specs.Sectors.{sector_at}
+use Rattle.shared_disk.specs.Settled.{IsPicked, IsSettling}
 use Rattle.shared_disk.specs.Store.{AreApart, AreHoused, IsLogWithin, IsStableWithin, content_of, file_of, found, has_dir, loose_in, loose_of, not_by, slot, slot_size}
-use Rattle.shared_disk.proofs.Contents.{file_at, none_at}
 use Rattle.shared_disk.proofs.Copies.{key_parts}
 use Rattle.shared_disk.proofs.Outcomes.{own_among}
 use Rattle.shared_disk.proofs.Slots.{found_at, found_gone, found_none, found_slot, slot_map, slot_mapped}

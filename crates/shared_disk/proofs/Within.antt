@@ -1,8 +1,8 @@
 -- Sectors and unsynced writes stay within the sizes of their files, and files in folders that are there.
-use Rattle.std.proofs.Common.{◌≡◌, ◌≢◌, ℕ, zero, suc, ◌+◌, ◌<◌, ◌≤◌, ◌==◌, ◌&&◌, Bool, true, false, not, if◌then◌else◌, List, [], ◌∷◌, ◌++◌, length, get_or, reverse, Option, Some, None, eq-eqb, eqb-true, refl, sym, ap, subst, ◌∙◌, inl, inr, arith}
+use Rattle.std.proofs.Common.{◌≡◌, ℕ, zero, suc, ◌<◌, ◌≤◌, ◌==◌, Bool, true, false, if◌then◌else◌, List, [], ◌∷◌, ◌++◌, length, get_or, reverse, Option, Some, None, eqb-true, refl, sym, ap, subst, ◌∙◌, inl, inr, arith}
 use Rattle.std.specs.List.{Contains, filter}
 use Rattle.std.proofs.lemmas.List.Sums.{count_by-le-length, length-filter}
-use Rattle.std.proofs.lemmas.Option.{none-some, same_Some}
+use Rattle.std.proofs.lemmas.Option.{same_Some}
 use Rattle.sd_names.specs.declared.place.Dir.{Dir}
 use Rattle.shared_disk.specs.declared.entry.FileEntry.{FileEntry}
 use Rattle.shared_disk.specs.declared.entry.Write.{Write}
@@ -11,9 +11,7 @@ use Rattle.shared_disk.specs.Content.{Loose, own_of}
 use Rattle.shared_disk.specs.Sectors.{key_eq, sector_at}
 use Rattle.shared_disk.specs.Store.{AreHoused, IsLogWithin, IsSlotPut, IsStableWithin, has_dir, loose_in, loose_of, or_else, slot, slot_size}
 use Rattle.shared_disk.proofs.Contents.{loose_push}
-use Rattle.shared_disk.proofs.Outcomes.{contains_here, contains_more, cons_cases, own_among, nothing_in, no_writes}
-use Rattle.shared_disk.proofs.Places.{not_false}
-use Rattle.shared_disk.proofs.Slots.{put_here, put_other}
+use Rattle.shared_disk.proofs.Outcomes.{contains_here, contains_more, cons_cases, own_among, no_writes}
 use Rattle.shared_disk.proofs.Synced.{filter-reverse}
 
 -- a file that has as many sectors as before, or more

@@ -13,3 +13,4 @@ pub mod Crash
 pub mod Changes
 pub mod SectorCalls
 pub mod NameCalls
+pub mod Placed

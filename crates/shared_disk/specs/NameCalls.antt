@@ -1,6 +1,5 @@
 -- What the calls answer and leave that work on names: renames, removals, moves of folders, and listings.
-use Rattle.std.specs.Prelude.{◌≡◌, ◌≢◌, ◌⊎◌, ℕ, Bool, true, false, Option, Some, None, Result, Ok, Err, IfOk}
-use Rattle.std.specs.declared.cmp.Ordering.{Ordering}
+use Rattle.std.specs.Prelude.{◌≡◌, ◌≢◌, ◌⊎◌, true, false, Option, Some, None, Result, Ok, Err}
 use Rattle.std.specs.declared.cmp.Ordering.TheVariants.{Less, Greater}
 use Rattle.sd_names.specs.Place.{dir_cmp, name_cmp}
 use Rattle.sd_names.specs.declared.place.Dir.{Dir}

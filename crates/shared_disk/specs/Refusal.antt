@@ -1,8 +1,9 @@
 -- The refusal that stands for a disk's answer, at a count of faults.
-use Rattle.std.specs.Prelude.{ℕ}
+use Rattle.std.specs.Prelude.{◌≡◌, ℕ}
 use Rattle.sd_names.specs.declared.turn.Absence.TheVariants as absence
 use Rattle.sd_names.specs.declared.refusal.Refusal.{Refusal}
 use Rattle.sd_names.specs.declared.refusal.Refusal.TheVariants.{DiskFault, Vanished}
+use Rattle.shared_disk.specs.Calls.{Rose}
 use Rattle.shared_disk.specs.declared.disk.DiskAnswer.{DiskAnswer}
 use Rattle.shared_disk.specs.declared.disk.DiskAnswer.TheVariants.{NoFile, Exists, OutOfFile, NotEmpty, Failed}
 
@@ -13,3 +14,14 @@ refusal_of Exists faults = Vanished absence.Exists
 refusal_of OutOfFile faults = Vanished absence.OutOfFile
 refusal_of NotEmpty faults = Vanished absence.NotEmpty
 refusal_of Failed faults = DiskFault faults
+
+-- a fault is answered only where the count rose, and with the new count
+abbrev pub IsRisen : ℕ → ℕ → Refusal → Type 0
+IsRisen before after (DiskFault n) = Rose before after × (n ≡ after)
+IsRisen before after _ = Unit {0}
+
+-- a refusal that stands for an answer of the disk: such a fault, or an absence
+abbrev pub IsDiskRefusal : ℕ → ℕ → Refusal → Type 0
+IsDiskRefusal before after (DiskFault n) = IsRisen before after (DiskFault n)
+IsDiskRefusal before after (Vanished a) = Unit {0}
+IsDiskRefusal before after _ = ⊥

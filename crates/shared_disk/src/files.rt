@@ -1,5 +1,5 @@
 // The files of a memory disk, by number.
-ghost use Rattle.std.specs.Prelude.{◌≡◌, ◌≢◌, ◌+◌, ◌<◌, ◌≤◌, ◌==◌, ℕ, [], Some, None, IfOk, IsSome, IsTrue, if◌then◌else◌, length, get_or, map, is_some, count_by, vec_len, vec_capacity};
+ghost use Rattle.std.specs.Prelude.{◌≡◌, ◌≢◌, ◌+◌, ◌<◌, ◌≤◌, ◌==◌, ℕ, [], Some, None, IfOk, IsSome, OnOk, IsTrue, if◌then◌else◌, length, get_or, map, is_some, count_by, vec_len, vec_capacity};
 ghost use Rattle.std.specs.Option.{option_map};
 ghost use Rattle.std.proofs.Props.{props};
 ghost use Rattle.shared_disk.specs.Files.{entry_moved, entry_synced};
@@ -152,6 +152,16 @@ impl Files {
             slots: Vec::with_capacity(alloc, room)?,
             count: 0,
         })
+    }
+
+    /// Takes the memory for so many files.
+    pub(crate) fn reserve(&mut self, room: usize) -> Result<(), AllocError>
+        ensures slots { self.new.slots.items ≡ self.old.slots.items }
+        ensures count { self.new.count ≡ self.old.count }
+        ensures no_less { vec_capacity self.old.slots ≤ vec_capacity self.new.slots }
+        ensures room { OnOk result (room ≤ vec_capacity self.new.slots) }
+    {
+        self.slots.reserve(room)
     }
 
     /// How many files there are.

@@ -1,9 +1,11 @@
 //! The shared folder as its hosts see it: files in sectors of 512 bytes, with writes that wait for a sync.
 #![tactic(auto)]
 
+mod counts;
 mod disk;
 mod entry;
 mod files;
+mod honest;
 pub mod laws;
 mod listing;
 mod log;
@@ -14,6 +16,7 @@ mod sector_map;
 mod store;
 
 pub use disk::{DiskAnswer, Exchanged, SharedDisk};
+pub use honest::Honest;
 pub use memory::Memory;
 pub use picks::Pick;
 pub use refusal::refusal_for;

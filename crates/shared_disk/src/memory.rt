@@ -1,8 +1,10 @@
 // A shared folder in memory.
-ghost use Rattle.std.specs.Prelude.{◌≡◌, ◌≢◌, ℕ, ◌+◌, ◌-◌, ◌*◌, ◌/◌, ◌^◌, ◌<◌, ◌≤◌, ◌↔◌, min, Some, IfOk, IsErrOf, IsTrue, Contains, if◌then◌else◌, Option};
-ghost use Rattle.shared_disk.specs.Calls.{Told};
+ghost use Rattle.std.specs.Prelude.{◌≡◌, ◌≢◌, ℕ, ◌+◌, ◌-◌, ◌*◌, ◌/◌, ◌^◌, ◌<◌, ◌≤◌, ◌↔◌, min, Some, IfOk, IsTrue, Contains, if◌then◌else◌, length, Option};
+ghost use Rattle.shared_disk.specs.Calls.{IsAligned, Told};
+ghost use Rattle.shared_disk.specs.Placed.{Places, Tells};
 ghost use Rattle.shared_disk.specs.Content.{Content, IsEmpty};
 
+use crate::counts::{bump, count};
 use crate::picks::{Pick, Picks};
 use crate::store::Store;
 use crate::{DiskAnswer, Exchanged, SharedDisk};
@@ -23,15 +25,8 @@ pub struct Memory {
     ghost faults_fit: { faults < 2 ^ 64 },
 }
 
-// One more, up to 2^64 - 1.
-fn bump(count: &mut u64)
-    ensures { count.new ≡ min (count.old + 1) (2 ^ 64 - 1) }
-{
-    *count = count.saturating_add(1);
-}
-
 impl Memory {
-    ghost use Rattle.shared_disk.specs.Parts.{content_of_memory, failing_of_memory, room_of_memory};
+    ghost use Rattle.shared_disk.specs.Parts.{IsOnlyStore, content_of_memory, failing_of_memory, room_of_memory, units_of_memory};
 
     /// An empty folder with room for so many units. The calls with the numbers in `failing` fail; the first call has
     /// the number 0.
@@ -57,6 +52,28 @@ impl Memory {
         }
     }
 
+    /// Makes a file with these bytes on the medium, in place of one that is there, and its folder where that isn't
+    /// there. It takes room for the units that it adds, and is no call. The length of the bytes is a multiple of 512.
+    pub fn put(&mut self, place: Place, bytes: &[u8]) -> Result<(), NoMemory>
+        requires { IsAligned (length bytes.now) }
+        ensures call { Told (content_of_memory self.old) (content_of_memory self.new) (λ d e. Places d place bytes.now result e) }
+        ensures room { room_of_memory self.new ≡ room_of_memory self.old + (units_of_memory self.new - units_of_memory self.old) }
+        ensures kept { IsOnlyStore self.old self.new }
+    {
+        match self.store.put(place, bytes) {
+            Ok(()) => Ok(()),
+            Err(_) => Err(NoMemory),
+        }
+    }
+
+    /// Reads what is on the medium from the byte `at` on, to the end of the file or of `into`, and answers how many bytes
+    /// that is; the rest of `into` is as it was. None where there is no such file. It is no call.
+    pub fn bytes(&self, place: Place, at: u64, into: &mut [u8]) -> Option<usize>
+        ensures { (d : Content) × (content_of_memory self.now ≡ Some d) × Tells d place at into.old into.new result }
+    {
+        self.store.bytes(place, at, into)
+    }
+
     // Counts a call, and answers whether it is one that fails.
     fn fails(&mut self) -> bool
         ensures calls { self.new.calls ≡ min (self.old.calls + 1) (2 ^ 64 - 1) }
@@ -70,19 +87,6 @@ impl Memory {
             bump(&mut self.faults);
         }
         listed
-    }
-
-    // Counts a fault, where a call found no room.
-    fn count(&mut self, answer: Result<(), DiskAnswer>)
-        ensures calls { self.new.calls ≡ self.old.calls }
-        ensures store { self.new.store ≡ self.old.store }
-        ensures failed { IsErrOf answer DiskAnswer.Failed → self.new.faults ≡ min (self.old.faults + 1) (2 ^ 64 - 1) }
-        ensures other { ¬ IsErrOf answer DiskAnswer.Failed → self.new.faults ≡ self.old.faults }
-        ensures no_less { self.old.faults ≤ self.new.faults }
-    {
-        if let Err(DiskAnswer::Failed) = answer {
-            bump(&mut self.faults);
-        }
     }
 }
 
@@ -119,7 +123,7 @@ impl SharedDisk for Memory {
             return Err(DiskAnswer::Failed);
         }
         let answer = self.store.write_at(host, place, at, bytes);
-        self.count(answer);
+        count(&mut self.faults, answer);
         answer
     }
 
@@ -135,7 +139,7 @@ impl SharedDisk for Memory {
             return Err(DiskAnswer::Failed);
         }
         let answer = self.store.create(host, place, length);
-        self.count(answer);
+        count(&mut self.faults, answer);
         answer
     }
 
@@ -151,7 +155,7 @@ impl SharedDisk for Memory {
             return Err(DiskAnswer::Failed);
         }
         let answer = self.store.make_dir(dir);
-        self.count(answer);
+        count(&mut self.faults, answer);
         answer
     }
 
@@ -226,7 +230,7 @@ impl SharedDisk for Memory {
             return Err(DiskAnswer::Failed);
         }
         let answer = self.store.exchange(host, place, sector, expect, next);
-        self.count(answer.map(|_| ()));
+        count(&mut self.faults, answer.map(|_| ()));
         answer
     }
 

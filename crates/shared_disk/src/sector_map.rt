@@ -1,5 +1,6 @@
 // Sectors by owner, file and number, in room that is taken at once.
-ghost use Rattle.std.specs.Prelude.{◌≡◌, ◌+◌, ◌<◌, ◌≤◌, ◌==◌, ℕ, Some, None, IfOk, is_some, if◌then◌else◌};
+ghost use Rattle.std.specs.Prelude.{◌≡◌, ◌+◌, ◌<◌, ◌≤◌, ◌==◌, ℕ, Some, None, IfOk, OnOk, get_or, is_some, unwrap_or, if◌then◌else◌};
+ghost use Rattle.shared_disk.specs.Content.{zero_sector};
 
 use std::alloc::{AllocError, Global};
 use std::collections::HashMap;
@@ -39,6 +40,27 @@ impl Sectors {
         ensures { result ≡ sector_at self.now owner file sector }
     {
         self.map.get(&(owner, file, sector)).copied()
+    }
+
+    /// A byte of a sector on the medium, 0 where the sector isn't kept.
+    pub(crate) fn byte(&self, file: usize, sector: u64, at: usize) -> u8
+        requires { at < 512 }
+        ensures { result ≡ get_or (unwrap_or (sector_at self.now 0 file sector) zero_sector) at 0 }
+    {
+        match self.map.get(&(MEDIUM, file, sector)) {
+            Some(bytes) => bytes[at],
+            None => 0,
+        }
+    }
+
+    /// Takes the memory for so many sectors.
+    pub(crate) fn reserve(&mut self, room: usize) -> Result<(), AllocError>
+        ensures at { (o f k : ℕ) → sector_at self.new o f k ≡ sector_at self.old o f k }
+        ensures count { kept_count self.new ≡ kept_count self.old }
+        ensures no_less { kept_room self.old ≤ kept_room self.new }
+        ensures room { OnOk result (room ≤ kept_room self.new) }
+    {
+        self.map.reserve(room)
     }
 
     /// Keeps these bytes for a sector, in place of those that were kept.

@@ -17,6 +17,7 @@ use std::alloc::{AllocError, Global};
 
 mod down;
 mod names;
+mod placing;
 mod sectors;
 
 /// The folder in which a folder stands. Root stands in itself.
@@ -100,6 +101,7 @@ impl Store {
         ensures dirs { IfOk result (λ s. s.dirs.items ≡ []) }
         ensures files { IfOk result (λ s. s.files.slots.items ≡ []) }
         ensures room { IfOk result (λ s. s.room ≡ room) }
+        ensures units { IfOk result (λ s. units s ≡ 0) }
     {
         Ok(Store {
             room,
@@ -111,12 +113,18 @@ impl Store {
         })
     }
 
+    /// How many units are used.
+    pub(crate) fn used(&self) -> usize
+        ensures { result ≡ units self.now }
+    {
+        self.dirs.len() + self.files.len() + self.stable.len() + self.log.len()
+    }
+
     // Whether there is room for so many more units.
     fn has_room(&self, more: usize) -> bool
         ensures { IsTrue result ↔ (units self.now + more ≤ self.now.room) }
     {
-        let used = self.dirs.len() + self.files.len() + self.stable.len() + self.log.len();
-        more <= self.room - used
+        more <= self.room - self.used()
     }
 
     pub(crate) fn make_dir(&mut self, dir: Dir) -> Result<(), DiskAnswer>

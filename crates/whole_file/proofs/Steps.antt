@@ -13,11 +13,11 @@ use Rattle.shared_disk.specs.Content.{Content, File, Loose, own_of, seen, sector
 use Rattle.shared_disk.specs.Refusal.{refusal_of}
 use Rattle.std.specs.Prelude.{MatchResult}
 use Rattle.shared_disk.specs.Calls.{Creates, IsCreated, IsPut, IsSame, Syncs, WriteAt, created, sectors_in, synced, wrote}
-use Rattle.shared_disk.specs.Crash.{IsAlso, IsFileOutcome, IsOutcome, stable_file, stable_folder, with_file}
+use Rattle.shared_disk.specs.Crash.{IsOutcome}
 use Rattle.shared_disk.specs.NameCalls.{Removes, Renames, IsRemoved, IsRenamed}
 use Rattle.shared_disk.specs.declared.disk.DiskAnswer.{DiskAnswer}
 use Rattle.shared_disk.specs.declared.disk.DiskAnswer.TheVariants.{NoFile, Exists, OutOfFile, NotEmpty, Failed}
-use Rattle.shared_disk.proofs.Outcomes.{with_outcome, with_here, stable_folder_outcome}
+use Rattle.shared_disk.proofs.AtPlace.{kept_on_each, no_file, one_file}
 use Rattle.shared_disk.proofs.OwnWrites.{own_within, without_writes}
 use Rattle.std.specs.Option.{option_map}
 use Rattle.whole_file.specs.Text.{HasText, IsTextFile, padded, sectors_for}
@@ -25,26 +25,10 @@ use Rattle.whole_file.specs.Replace.{Clears, ClearedBy, GoesOn, IsApart, IsMore,
 use Rattle.whole_file.specs.declared.replace.Replace.{Replace}
 use Rattle.whole_file.specs.declared.replace.Stage.{Stage}
 use Rattle.whole_file.specs.declared.replace.Stage.TheVariants.{Begun, Cleared, Created, Written, Synced}
-use Rattle.whole_file.proofs.Texts.{also_some, sectors_padded, text_stays}
-
-also_none : (R : File → File → Type 0) (o : Option File) → IsAlso R None o → o ≡ None
-also_none R None also = refl
-also_none R (Some g) also = absurd also
-
--- what crashes may leave at a place whose file is as it was
-kept_on_each : (target : Place) (text : List ℕ) (d e o : Content) (was : Option File) → d.file target ≡ was → e.file target ≡ was → IsOutcome e o
-    → ((p : Content) × IsOutcome d p × (o.file target ≡ p.file target)) ⊎ HasText o target text
-kept_on_each target text d e o None before after out =
-    let also : IsAlso IsFileOutcome None (o.file target) = subst (λ (x : Option File). IsAlso IsFileOutcome x (o.file target)) after (out.files target) in
-    inl (stable_folder d, stable_folder_outcome d, also_none IsFileOutcome (o.file target) also ∙ sym (ap (λ (x : Option File). option_map stable_file x) before))
-kept_on_each target text d e o (Some f) before after out =
-    let also : IsAlso IsFileOutcome (Some f) (o.file target) = subst (λ (x : Option File). IsAlso IsFileOutcome x (o.file target)) after (out.files target) in
-    let got = also_some IsFileOutcome f (o.file target) also in
-    let p : Content = with_file target got.0 (stable_folder d) in
-    inl (p, with_outcome d (stable_folder d) target f got.0 before got.2 (stable_folder_outcome d), got.1 ∙ sym (with_here (stable_folder d) target got.0))
+use Rattle.whole_file.proofs.Texts.{sectors_padded, text_stays}
 
 pub old_or_new_on_each : (target : Place) (text : List ℕ) (d e : Content) → IsOldOrNew target text d e → IsOldOrNewOnEach target text d e
-old_or_new_on_each target text d e (inl same) o out = kept_on_each target text d e o (d.file target) refl same out
+old_or_new_on_each target text d e (inl same) o out = inl (kept_on_each d e o target same out)
 old_or_new_on_each target text d e (inr has) o out = inr (text_stays e o target text has out)
 
 -- the next stage's knowledge
@@ -102,13 +86,6 @@ folder_after r host text d e new knows put = put.dirs (target_of r).dir ∙ know
 
 folder_same : (r : Replace) (host : ℕ) (text : List ℕ) (d e : Content) → Knows r host text d → IsSame d e → e.dir (target_of r).dir ≡ true
 folder_same r host text d e knows same = ap (λ (c : Content). c.dir (target_of r).dir) same ∙ knows.folder
-
--- a file isn't there and there
-no_file : (f : File) (o : Option File) → o ≡ None → o ≡ Some f → ⊥
-no_file f o gone there = none-some f (sym gone ∙ there)
-
-one_file : (f g : File) (o : Option File) → o ≡ Some f → o ≡ Some g → f ≡ g
-one_file f g o first second = ap (λ (x : Option File). unwrap_or x f) (sym first ∙ second)
 
 pub clear_step : (r : Replace) (host faults : ℕ) (text : List ℕ) (turn : Turn Replace (Unit {0}) (Unit {0})) (d e : Content) → (target_of r).name ≢ (volatile_of r).name
     → Knows r host text d → (answer : Result (Unit {0}) DiskAnswer) → Removes d (volatile_of r) answer e → ClearedBy r faults answer turn → Steps r host faults text turn d e

@@ -5,8 +5,8 @@ use Rattle.std.proofs.lemmas.List.{take-append-drop, length-replicate, take-repl
 use Rattle.shared_disk.specs.Content.{Content, File, seen, sector_of}
 use Rattle.shared_disk.specs.Calls.{sectors_in}
 use Rattle.sd_names.specs.declared.place.Place.{Place}
-use Rattle.shared_disk.specs.Crash.{IsAlso, IsFileOutcome, IsOutcome}
-use Rattle.shared_disk.proofs.Outcomes.{settled_file}
+use Rattle.shared_disk.specs.Crash.{IsOutcome}
+use Rattle.shared_disk.proofs.AtPlace.{settled_stays}
 use borrow.Rule.Slice.PartMut.{post_of}
 use Rattle.whole_file.specs.Text.{HasText, IsTextFile, before_zero, bytes_of, padded, sectors_for, text_of, HasNoZero}
 use Rattle.std.specs.Prelude.{None, Option, All}
@@ -27,17 +27,9 @@ cut_to_sectors text n fits =
     ∙ take-append-add text (replicate (n - length text) 0) more
     ∙ ap (λ (zeros : List ℕ). text ++ zeros) (take-replicate {X = ℕ} more (n - length text) 0 (omega arith))
 
--- a file that is there on an outcome has been there
-pub also_some : (R : File → File → Type 0) (f : File) (o : Option File) → IsAlso R (Some f) o → (g : File) × (o ≡ Some g) × R f g
-also_some R f None also = absurd also
-also_some R f (Some g) also = (g, refl, also)
-
 -- a text on the medium is there on each outcome
 pub text_stays : (d o : Content) (place : Place) (text : List ℕ) → HasText d place text → IsOutcome d o → HasText o place text
-text_stays d o place text has out =
-    let also : IsAlso IsFileOutcome (Some has.0) (o.file place) = subst (λ (x : Option File). IsAlso IsFileOutcome x (o.file place)) has.1 (out.files place) in
-    let got = also_some IsFileOutcome has.0 (o.file place) also in
-    (has.0, got.1 ∙ ap (λ (g : File). Some g) (settled_file has.0 got.0 has.2.settled got.2), has.2)
+text_stays d o place text has out = (has.0, settled_stays d o place has.0 has.1 has.2.settled out, has.2)
 
 -- a padded text in a room of zeros
 pub padded_in_room : (text room : List ℕ) (n : ℕ) → length text ≤ 8192 → room ≡ replicate 8192 0 → n ≡ 512 * sectors_for (length text)

@@ -6,7 +6,7 @@ use Rattle.sd_names.specs.declared.refusal.Refusal.TheVariants.{DiskFault}
 use Rattle.shared_disk.specs.Content.{Content, File, without}
 use Rattle.shared_disk.specs.Calls.{IsSame}
 use Rattle.whole_file.specs.Text.{longest, text_of}
-use Rattle.whole_file.specs.Replace.{IsDiskRefusal}
+use Rattle.shared_disk.specs.Refusal.{IsDiskRefusal}
 use Rattle.whole_file.specs.declared.read.Text.{Text}
 use Rattle.whole_file.specs.declared.read.Text.TheVariants.{Absent, Long, Bytes}
 

@@ -4,15 +4,15 @@ use Rattle.sd_names.specs.declared.place.Dir.{Dir}
 use Rattle.sd_names.specs.declared.place.Name.{Name}
 use Rattle.sd_names.specs.declared.place.Place.{Place}
 use Rattle.sd_names.specs.declared.refusal.Refusal.{Refusal}
-use Rattle.sd_names.specs.declared.refusal.Refusal.TheVariants.{DiskFault, Vanished}
+use Rattle.sd_names.specs.declared.refusal.Refusal.TheVariants.{DiskFault}
 use Rattle.sd_names.specs.declared.turn.Turn.{Turn}
 use Rattle.sd_names.specs.declared.turn.Turn.TheVariants.{Done, Ended}
 use Rattle.sd_names.specs.Turn.{MatchTurn}
 use Rattle.shared_disk.specs.Content.{Content, File}
-use Rattle.shared_disk.specs.Calls.{Creates, Rose, Syncs, WriteAt, created, wrote}
+use Rattle.shared_disk.specs.Calls.{Creates, Syncs, WriteAt, created, wrote}
 use Rattle.shared_disk.specs.Crash.{IsOutcome}
 use Rattle.shared_disk.specs.NameCalls.{Removes, Renames, place_in}
-use Rattle.shared_disk.specs.Refusal.{refusal_of}
+use Rattle.shared_disk.specs.Refusal.{IsDiskRefusal, refusal_of}
 use Rattle.shared_disk.specs.declared.disk.DiskAnswer.{DiskAnswer}
 use Rattle.shared_disk.specs.declared.disk.DiskAnswer.TheVariants.{NoFile}
 use Rattle.whole_file.specs.Text.{HasText, padded, sectors_for}
@@ -131,12 +131,6 @@ abbrev pub TakesName : Replace → ℕ → Turn Replace (Unit {0}) (Unit {0}) �
 TakesName r faults turn d e =
     (answer : Result (Unit {0}) DiskAnswer) × Renames d (volatile_of r) (target_of r).name answer e
     × MatchResult answer (λ _. turn ≡ Done tt) (λ a. turn ≡ Ended tt (refusal_of a faults))
-
--- a refusal that stands for an answer of the disk: a fault with the new count, which rose, or an absence
-abbrev pub IsDiskRefusal : ℕ → ℕ → Refusal → Type 0
-IsDiskRefusal before after (DiskFault n) = Rose before after × (n ≡ after)
-IsDiskRefusal before after (Vanished a) = Unit {0}
-IsDiskRefusal before after _ = ⊥
 
 -- what a step does to the counts of the disk, whatever the disk tells
 pub record Counts (faults faults' calls calls' : ℕ) (turn : Turn Replace (Unit {0}) (Unit {0})) : Type 0 where

@@ -1,5 +1,5 @@
 // Calls of a store that work on names and folders.
-ghost use Rattle.std.specs.Prelude.{◌≡◌, ◌≢◌, ℕ, Some, None, Err, IsSome, IfOk};
+ghost use Rattle.std.specs.Prelude.{◌≡◌, ◌≢◌, ◌≤◌, ℕ, Some, None, Err, IsSome, IfOk};
 ghost use Rattle.sd_names.specs.declared.place.Dir.TheVariants.{Root};
 ghost use Rattle.shared_disk.specs.NameCalls.{AnswersDirAbove, AnswersNameAbove, AreImageDirs, MovesDir, NextDir, NextName, Removes, RemovesDir, Renames};
 ghost use Rattle.shared_disk.specs.Sectors.{sector_at};
@@ -14,7 +14,7 @@ use sd_names::{Dir, Name, Place};
 use std::mem;
 
 impl Store {
-    ghost use Rattle.shared_disk.specs.Held.{held};
+    ghost use Rattle.shared_disk.specs.Held.{held, units};
 
     // Takes a file away, with its sectors and its unsynced writes.
     fn drop_file(&mut self, number: usize)
@@ -23,6 +23,7 @@ impl Store {
         ensures slots { IsSlotPut number None self.old.files.slots.items self.new.files.slots.items }
         ensures stable { (n k : ℕ) → n ≢ number → sector_at self.new.stable 0 n k ≡ sector_at self.old.stable 0 n k }
         ensures loose { (n : ℕ) → n ≢ number → loose_of n self.new.log.items ≡ loose_of n self.old.log.items }
+        ensures units { units self.new ≤ units self.old }
         ensures room { self.new.room ≡ self.old.room }
     {
         self.files.take(number);
@@ -35,9 +36,10 @@ impl Store {
     }
 
     // Takes away the file at a place, if there is one.
-    fn clear_place(&mut self, place: Place)
+    pub(super) fn clear_place(&mut self, place: Place)
         ensures dirs { self.new.dirs ≡ self.old.dirs }
         ensures cleared { IsCleared place self.old.files.slots.items self.old.stable self.old.log.items self.new.files.slots.items self.new.stable self.new.log.items }
+        ensures units { units self.new ≤ units self.old }
         ensures room { self.new.room ≡ self.old.room }
     {
         if let Some((number, _)) = self.files.find(place) {

@@ -1,6 +1,7 @@
 use Rattle.std.proofs.Common.{◌≡◌, ◌∙◌, refl, sym, ap, inl, inr, subst, List, ℕ, Some, None, Option, Err}
 use Rattle.sd_names.specs.declared.refusal.Refusal.{Refusal}
-use Rattle.lease_area.specs.Hold.{IsRisen, take_refusal}
+use Rattle.lease_area.specs.Hold.{take_refusal}
+use Rattle.shared_disk.specs.Refusal.{IsRisen}
 use Rattle.lease_area.specs.Move.{next_sector}
 use Rattle.lease_area.specs.declared.sector.Sector.{Sector}
 use Rattle.lease_area.specs.declared.sector.LeaseRecord.{LeaseRecord}

@@ -1,4 +1,4 @@
-use Rattle.std.proofs.Common.{◌≡◌, Option, set, ap, sym, ◌∙◌, arith}
+use Rattle.std.proofs.Common.{Option, set, ap, ◌∙◌}
 use Rattle.std.specs.Option.{option_map}
 use Rattle.std.proofs.lemmas.List.Edits.{map_over_more}
 use Rattle.shared_disk.specs.Files.{entry_moved}

@@ -1,4 +1,4 @@
-use Rattle.std.proofs.Common.{◌≡◌, true, false, sym, ap, ◌∙◌}
+use Rattle.std.proofs.Common.{sym, ◌∙◌}
 use Rattle.std.proofs.lemmas.Bool.{false≢true}
 use Rattle.shared_disk.proofs.Listed.{dir_more, dir_same}
 use Rattle.shared_disk.proofs.listing.with_dir.Goals as goal

@@ -1,4 +1,4 @@
-use Rattle.std.proofs.Common.{◌≡◌, ◌+◌, ◌<◌, ◌≤◌, ◌-◌, ℕ, Bool, true, false, cond, not, List, length, get_or, take, filter, ap, sym, ◌∙◌, arith}
+use Rattle.std.proofs.Common.{not, ap, sym, ◌∙◌}
 use Rattle.shared_disk.specs.declared.entry.Write.{Write}
 use Rattle.shared_disk.specs.Store.{is_at}
 use Rattle.shared_disk.proofs.Within.{filter_fewer}

@@ -1,4 +1,3 @@
-use Rattle.std.proofs.Common.{ℕ}
 use Rattle.shared_disk.proofs.log.is_waiting.Given as goal
 
 abbrev pub invariant-loop-write : goal.invariant-loop-write

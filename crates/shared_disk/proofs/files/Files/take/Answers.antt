@@ -1,4 +1,4 @@
-use Rattle.std.proofs.Common.{◌≡◌, None, true, is_some, sym, arith}
+use Rattle.std.proofs.Common.{◌≡◌, None, true, is_some, arith}
 use Rattle.std.proofs.lemmas.Option.{none-some}
 use Rattle.shared_disk.specs.Store.{slot}
 use Rattle.shared_disk.proofs.Slots.{slot_set, slot_within_some, put_apart, count_put}

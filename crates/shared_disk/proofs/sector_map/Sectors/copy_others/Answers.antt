@@ -1,9 +1,5 @@
-use Rattle.std.proofs.Common.{◌≡◌, ◌≢◌, ◌⊎◌, ℕ, List, ◌∷◌, length, Some, None, is_some, All, Contains, ap, sym, ◌∙◌, subst, inr, refl, arith}
-use Rattle.std.specs.HashMap.{get}
-use Rattle.std.specs.Map.{lookup}
-use Rattle.std.proofs.lemmas.Option.{none-some}
-use Rattle.shared_disk.specs.Sectors.{key_eq, sector_at}
-use Rattle.shared_disk.specs.declared.sector_map.Sectors.{Sectors}
+use Rattle.std.proofs.Common.{◌≡◌, ℕ, List, ◌∷◌, length, is_some, ap, ◌∙◌, subst, arith}
+use Rattle.shared_disk.specs.Sectors.{sector_at}
 use Rattle.shared_disk.proofs.Copies.{IsCopying, at_most_one, copied, copying_begins, copying_ends, skipped}
 use Rattle.shared_disk.proofs.sector_map.Sectors.copy_others.Goals as goal
 

@@ -1,5 +1,5 @@
-use Rattle.std.proofs.Common.{◌≡◌, true, false, None, is_some, refl, ap, sym, ◌∙◌}
-use Rattle.shared_disk.specs.Store.{found, has_dir, slot, slot_size}
+use Rattle.std.proofs.Common.{◌≡◌, Some, true, false, is_some, refl}
+use Rattle.shared_disk.specs.Store.{found, has_dir}
 use Rattle.shared_disk.proofs.Contents.{is_created, some_of, none_of, none_at}
 use Rattle.shared_disk.proofs.Within.{add_wider, free_stable, log_wider, none_loose, put_housed, stable_wider}
 use Rattle.shared_disk.proofs.store.Store.create.Goals as goal
@@ -37,7 +37,7 @@ returns-clause-call c =
     record {
       folder = cc;
       free = none_at _ (found c.args.place 0 c.args.self.now.files.slots.items) none;
-      put = is_created c.args.self.now.dirs.items c.args.self.now.dirs.items c.args.self.now.files.slots.items c.add.new.self.slots.items c.args.self.now.stable c.args.self.now.stable c.args.self.now.log.items c.args.self.now.log.items c.add.result c.args.host _
+      put = is_created c.args.self.now.dirs.items c.args.self.now.dirs.items c.args.self.now.files.slots.items c.add.new.self.slots.items c.args.self.now.stable c.args.self.now.stable c.args.self.now.log.items c.args.self.now.log.items c.add.result (Some c.args.host) _
           refl refl refl c.add.new.self.apart c.add.ensures.free c.add.ensures.put
           (free_stable c.add.result c.args.self.now.files.slots.items c.args.self.now.stable c.args.self.now.stable_within c.add.ensures.free)
           (none_loose c.add.result c.args.self.now.files.slots.items c.args.self.now.log.items c.args.self.now.log_within c.add.ensures.free) refl none;

@@ -1,4 +1,4 @@
-use Rattle.std.proofs.Common.{◌≡◌, List, ap, subst₂, ◌∙◌, map}
+use Rattle.std.proofs.Common.{ap, subst₂, ◌∙◌, map}
 use Rattle.std.specs.Option.{option_map}
 use Rattle.shared_disk.specs.Files.{entry_synced}
 use Rattle.shared_disk.specs.Settled.{IsSettling}

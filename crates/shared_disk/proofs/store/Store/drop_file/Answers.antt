@@ -1,4 +1,4 @@
-use Rattle.std.proofs.Common.{◌≡◌, ◌==◌, ◌≤◌, not, length, ap, sym, ◌∙◌, arith}
+use Rattle.std.proofs.Common.{◌≡◌, ◌==◌, not, length, ap, ◌∙◌, arith}
 use Rattle.shared_disk.specs.Content.{own_of}
 use Rattle.shared_disk.specs.Sectors.{kept_count, kept_room, sector_at}
 use Rattle.shared_disk.specs.Store.{loose_of}
@@ -46,3 +46,9 @@ invariant_of-self-clause-own_room c =
 
 pub returns-clause-loose : goal.returns-clause-loose
 returns-clause-loose c = λ n apart. ap (λ ws. loose_of n ws) c.forget_file.ensures.items ∙ outside_other c.args.number n c.args.self.now.log.items apart
+
+pub returns-clause-units : goal.returns-clause-units
+returns-clause-units c =
+    let count : kept_count c.swap.new.x ≡ kept_count c.copy_others.new.into = ap kept_count c.swap.ensures.x_after in
+    let fewer = filter_no_more (λ v. not (v.file == c.args.number)) c.args.self.now.log.items c.forget_file.new.log.items c.forget_file.ensures.items in
+    omega (arith, count, fewer, c.copy_others.ensures.count, c.take.ensures.count)

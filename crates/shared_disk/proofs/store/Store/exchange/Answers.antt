@@ -1,6 +1,6 @@
-use Rattle.std.proofs.Common.{◌≡◌, ◌<◌, Some, refl, sym, ap, ◌∙◌, inl, arith}
+use Rattle.std.proofs.Common.{◌≡◌, Some, refl, sym, ap, ◌∙◌, inl, arith}
 use Rattle.std.proofs.lemmas.Bool.{false≢true}
-use Rattle.shared_disk.specs.Store.{file_of, found, slot_size}
+use Rattle.shared_disk.specs.Store.{file_of, found}
 use Rattle.shared_disk.proofs.Contents.{file_at}
 use Rattle.shared_disk.proofs.PutSectors.{is_exchanged}
 use Rattle.shared_disk.proofs.Slots.{found_slot}

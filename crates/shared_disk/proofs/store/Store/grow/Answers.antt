@@ -1,4 +1,4 @@
-use Rattle.std.proofs.Common.{◌≡◌, ◌/◌, ◌≤◌, Some, max, is_some, true, sym, ap, subst, ◌∙◌, refl, arith}
+use Rattle.std.proofs.Common.{◌≡◌, ◌/◌, Some, is_some, true, sym, ap, subst, ◌∙◌, refl, arith}
 use Rattle.sd_names.specs.declared.place.Place.{Place}
 use Rattle.shared_disk.specs.Store.{file_of, found, has_dir}
 use Rattle.shared_disk.proofs.Contents.{file_at, is_put}

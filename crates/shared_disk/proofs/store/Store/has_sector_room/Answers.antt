@@ -1,5 +1,4 @@
 use Rattle.std.proofs.Common.{◌≡◌, true, not, is_some, ap, sym, ◌∙◌, refl, arith}
-use Rattle.std.proofs.lemmas.Bool.{false≢true}
 use Rattle.shared_disk.specs.Sectors.{sector_at}
 use Rattle.shared_disk.specs.Store.{is_at}
 use Rattle.shared_disk.proofs.Copies.{at_most_one}

@@ -1,7 +1,6 @@
-use Rattle.std.proofs.Common.{◌≡◌, List, Bool, true, false, length, map, sym, ap, ◌∙◌}
+use Rattle.std.proofs.Common.{◌≡◌, true, false, length, map, ap, ◌∙◌}
 use Rattle.std.specs.Vec.{with_items}
 use Rattle.std.proofs.lemmas.List.{length-map, with_items_is}
-use Rattle.sd_names.specs.declared.place.Dir.{Dir}
 use Rattle.shared_disk.specs.Listing.{dir_moved}
 use Rattle.shared_disk.specs.Store.{has_dir}
 use Rattle.shared_disk.proofs.Folders.{is_dir_moved, moved_housed, moved_wider, none_housed, not_root}

@@ -1,4 +1,4 @@
-use Rattle.std.proofs.Common.{◌≡◌, List, subst, refl}
+use Rattle.std.proofs.Common.{List, subst, refl}
 use Rattle.sd_names.specs.declared.place.Dir.{Dir}
 use Rattle.shared_disk.specs.Listing.{IsLeastDir}
 use Rattle.shared_disk.proofs.Folders.{answers_dir}

@@ -1,4 +1,4 @@
-use Rattle.std.proofs.Common.{◌≡◌, List, Option, subst, refl}
+use Rattle.std.proofs.Common.{List, Option, subst, refl}
 use Rattle.shared_disk.specs.Listing.{IsLeastName}
 use Rattle.shared_disk.specs.declared.entry.FileEntry.{FileEntry}
 use Rattle.shared_disk.proofs.Folders.{answers_name}

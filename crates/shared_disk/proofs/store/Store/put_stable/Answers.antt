@@ -1,9 +1,8 @@
-use Rattle.std.proofs.Common.{◌≡◌, not, is_some, length, ◌∙◌, ap, arith}
+use Rattle.std.proofs.Common.{◌≡◌, not, length, ◌∙◌, ap, arith}
 use Rattle.shared_disk.specs.Content.{own_of}
-use Rattle.shared_disk.specs.Sectors.{sector_at}
 use Rattle.shared_disk.specs.Store.{is_at, loose_of}
 use Rattle.shared_disk.proofs.PutSectors.{put_within}
-use Rattle.shared_disk.proofs.Within.{filter_no_more, log_part}
+use Rattle.shared_disk.proofs.Within.{log_part}
 use Rattle.shared_disk.proofs.store.Store.put_stable.Goals as goal
 
 pub returns-clause-stable : goal.returns-clause-stable

@@ -1,4 +1,4 @@
-use Rattle.std.proofs.Common.{◌≡◌, List, Option, None, true, false, not, is_some, length, sym, ap, subst, ◌∙◌, refl, arith}
+use Rattle.std.proofs.Common.{List, Option, None, not, sym, subst, ◌∙◌, refl, arith}
 use Rattle.sd_names.specs.declared.place.Dir.{Dir}
 use Rattle.shared_disk.specs.Held.{held}
 use Rattle.shared_disk.specs.Listing.{IsLeastDir, IsLeastName}

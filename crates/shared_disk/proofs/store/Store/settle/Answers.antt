@@ -1,4 +1,4 @@
-use Rattle.std.proofs.Common.{◌≡◌, List, not, ◌∙◌, ap, subst, sym}
+use Rattle.std.proofs.Common.{List, not, ◌∙◌, ap, subst, sym}
 use Rattle.shared_disk.specs.Content.{own_of}
 use Rattle.shared_disk.specs.Store.{IsLogWithin, is_by, loose_of}
 use Rattle.shared_disk.specs.declared.entry.Write.{Write}

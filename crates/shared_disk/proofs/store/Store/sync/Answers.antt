@@ -1,7 +1,7 @@
-use Rattle.std.proofs.Common.{◌≡◌, ℕ, Some, Option, is_some, sym, ap, ◌∙◌, le_refl}
+use Rattle.std.proofs.Common.{◌≡◌, ℕ, Some, is_some, ap, ◌∙◌, le_refl}
 use Rattle.sd_names.specs.declared.place.Place.{Place}
 use Rattle.shared_disk.specs.Files.{entry_synced}
-use Rattle.shared_disk.specs.Store.{IsSlotPut, found, file_of, has_dir, slot}
+use Rattle.shared_disk.specs.Store.{IsSlotPut, found, file_of}
 use Rattle.shared_disk.specs.declared.entry.FileEntry.{FileEntry}
 use Rattle.shared_disk.specs.declared.files.Files.{Files}
 use Rattle.shared_disk.proofs.Contents.{file_at}

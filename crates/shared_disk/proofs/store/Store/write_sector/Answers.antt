@@ -1,5 +1,4 @@
-use Rattle.std.proofs.Common.{◌≡◌, ℕ, List, Option, Some, ap, ◌∙◌, if◌then◌else◌}
-use Rattle.shared_disk.specs.Content.{own_of}
+use Rattle.std.proofs.Common.{ℕ, List, Option, Some, ap, ◌∙◌, if◌then◌else◌}
 use Rattle.shared_disk.specs.Sectors.{key_eq}
 use Rattle.shared_disk.proofs.Within.{log_more, own_more}
 use Rattle.shared_disk.proofs.store.Store.write_sector.Goals as goal

@@ -1,4 +1,4 @@
-use Rattle.std.proofs.Common.{◌≡◌, List, Option, Some, true, sym, ap, ◌∙◌, inl, inr}
+use Rattle.std.proofs.Common.{◌≡◌, Some, sym, ap, ◌∙◌, inl, inr}
 use Rattle.shared_disk.specs.Content.{own_of}
 use Rattle.shared_disk.specs.Sectors.{sector_at}
 use Rattle.shared_disk.specs.Store.{loose_of}

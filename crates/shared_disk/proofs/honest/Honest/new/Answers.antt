@@ -1,0 +1,11 @@
+use Rattle.std.proofs.Common.{refl}
+use Rattle.shared_disk.specs.Held.{held}
+use Rattle.shared_disk.proofs.Contents.{is_empty}
+use Rattle.shared_disk.proofs.honest.Honest.new.Goals as goal
+
+pub returns-in-Ok : goal.returns-in-Ok
+returns-in-Ok c = record {
+  empty = (held c.in-Ok.store, refl, is_empty _ _ c.in-Ok.store.stable c.in-Ok.store.log.items c.in-Ok.ensures.dirs c.in-Ok.ensures.files);
+  room = c.in-Ok.ensures.room;
+  used = c.in-Ok.ensures.units;
+}
