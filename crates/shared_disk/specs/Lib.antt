@@ -14,3 +14,4 @@ pub mod Changes
 pub mod SectorCalls
 pub mod NameCalls
 pub mod Placed
+pub mod Turns

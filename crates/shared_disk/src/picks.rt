@@ -1,5 +1,5 @@
 // How the unsynced sectors of a host are settled when it goes down.
-ghost use Rattle.std.specs.Prelude.{◌≡◌, ◌⊎◌, true, IfSome};
+ghost use Rattle.std.specs.Prelude.{◌≡◌, ◌⊎◌, ◌+◌, true, IfSome, get_or};
 ghost use Rattle.shared_disk.specs.Crash.{IsSector};
 
 /// How a sector that a host had not synced is settled when the host goes down.
@@ -21,6 +21,8 @@ pub(crate) struct Picks {
 }
 
 impl Picks {
+    ghost use Rattle.shared_disk.specs.Turns.{turn_in};
+
     pub(crate) fn new(picks: Vec<Pick>) -> Picks {
         Picks { picks, turn: 0 }
     }
@@ -36,16 +38,21 @@ impl Picks {
     }
 
     /// The next one.
-    pub(crate) fn next(&mut self) -> Pick {
-        if self.turn >= self.picks.len() {
-            self.turn = 0;
+    pub(crate) fn next(&mut self) -> Pick
+        ensures pick { result ≡ get_or self.old.picks.items (turn_in self.old.picks.items self.old.turn) Pick.New }
+        ensures turn { self.new.turn ≡ turn_in self.old.picks.items self.old.turn + 1 }
+        ensures picks { self.new.picks ≡ self.old.picks }
+    {
+        let at = if self.turn < self.picks.len() {
+            self.turn
+        } else {
+            0
+        };
+        self.turn = at + 1;
+        if at < self.picks.len() {
+            return self.picks[at];
         }
-        if self.picks.is_empty() {
-            return Pick::New;
-        }
-        let pick = self.picks[self.turn];
-        self.turn = self.turn.saturating_add(1);
-        pick
+        Pick::New
     }
 }
 
