@@ -202,11 +202,11 @@ format_fault : (h : Header) (found : Option (ℕ × Format)) → field_fault (wi
 unfolding field_fault
 format_fault h found = refl
 
-fine_ok : (h g : Header) (fault : Option LayerFault) → elim fault as (λ _. Result Header LayerFault) [ None ↦ Ok h | Some f ↦ Err f ] ≡ Ok g → (fault ≡ None) × (h ≡ g)
+pub fine_ok : (h g : Header) (fault : Option LayerFault) → elim fault as (λ _. Result Header LayerFault) [ None ↦ Ok h | Some f ↦ Err f ] ≡ Ok g → (fault ≡ None) × (h ≡ g)
 fine_ok h g None e = (refl, cc)
 fine_ok h g (Some f) e = absurd cc
 
-sized_ok : (h g : Header) (b : Bool) → cond b (Err (Size h.size)) (Ok h) ≡ Ok g → (b ≡ false) × (h ≡ g)
+pub sized_ok : (h g : Header) (b : Bool) → cond b (Err (Size h.size)) (Ok h) ≡ Ok g → (b ≡ false) × (h ≡ g)
 sized_ok h g true e = absurd cc
 sized_ok h g false e = (refl, cc)
 

@@ -5,3 +5,4 @@ pub mod Put
 pub mod Table
 pub mod Again
 pub mod Accepted
+pub mod Kept

@@ -1,22 +1,14 @@
--- Backing file names whose last part is an identifier in its text form (RFC 9562, section 4).
-use Rattle.std.specs.Prelude.{ℕ, suc, Bool, true, ◌+◌, ◌-◌, ◌==◌, ◌||◌, ◌&&◌, not, nat_lt, nat_le, if◌then◌else◌, List, [], ◌∷◌, length, take, drop}
+-- Backing file names, whose last part is an identifier in its text form (RFC 9562, section 4).
+use Rattle.std.specs.Prelude.{ℕ, Bool, ◌+◌, ◌-◌, ◌==◌, ◌&&◌, not, nat_lt, nat_le, if◌then◌else◌, List, length, take, drop, Option, None}
 use Rattle.std.specs.List.{after_last}
+use Rattle.std.specs.Option.{is_some}
+use Rattle.sd_names.specs.Id.{id_of}
+use Rattle.sd_names.specs.declared.id.Id.{Id}
+use Rattle.qcow_format.specs.declared.header.Header.{Header}
 
--- `0` to `9`, `A` to `F` and `a` to `f`
-abbrev pub is_hex_digit : ℕ → Bool
-is_hex_digit b = (nat_le 48 b && nat_le b 57) || (nat_le 65 b && nat_le b 70) || (nat_le 97 b && nat_le b 102)
-
--- hyphens stand behind 8, 4, 4 and 4 hexadecimal digits
-abbrev pub is_id_byte : ℕ → ℕ → Bool
-is_id_byte k b = if k == 8 || k == 13 || k == 18 || k == 23 then b == 45 else is_hex_digit b
-
--- the bytes of an identifier's text from its place k on
-abbrev pub are_id_bytes : ℕ → List ℕ → Bool
-are_id_bytes k [] = true
-are_id_bytes k (b ∷ bs) = is_id_byte k b && are_id_bytes (suc k) bs
-
+-- the text of an identifier
 abbrev pub is_id : List ℕ → Bool
-is_id text = length text == 36 && are_id_bytes 0 text
+is_id text = is_some (id_of text)
 
 -- the part of a path behind its last `/`, which is all of it where it has none
 abbrev pub last_part : List ℕ → List ℕ
@@ -32,3 +24,8 @@ is_name head span at size =
     nat_le size 1023 && nat_le (at + size) (length head)
     && not (touches at size (span - 1024) && touches at size (span - 512))
     && is_id (last_part (take size (drop at head)))
+
+-- the identifier with which the backing file's name ends, or None where there is no backing file
+abbrev pub backing_id : Header → List ℕ → Option Id
+backing_id h head =
+    if h.backing_file_offset == 0 then None else id_of (last_part (take h.backing_file_size (drop h.backing_file_offset head)))

@@ -15,6 +15,7 @@ pub use entry::{Entry, entries_read_again, entry_bits, entry_of, table_place};
 pub use extension::{BACKING_FORMAT, Extension, Extensions};
 pub use head::extensions;
 pub use header::{Header, MAGIC, headers_read_again};
+pub use name::backing_id;
 
 #[cfg(test)]
 mod tests;

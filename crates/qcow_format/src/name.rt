@@ -1,31 +1,10 @@
 // Backing file names.
-ghost use Rattle.std.specs.Prelude.{◌≡◌, ◌≤◌, length};
-ghost use Rattle.qcow_format.specs.Name.{is_hex_digit, is_id_byte, is_id, last_part, is_name};
+ghost use Rattle.std.specs.Prelude.{◌≡◌, ◌≢◌, ◌≤◌, length, IfNone, IfSome, Ok};
+ghost use Rattle.qcow_format.specs.Header.{header_of};
+ghost use Rattle.qcow_format.specs.Name.{backing_id, last_part, is_name};
 
-// Whether a byte can stand at a place of an identifier's text.
-fn can_stand(place: usize, byte: u8) -> bool
-    ensures { result ≡ is_id_byte place byte }
-{
-    if place == 8 || place == 13 || place == 18 || place == 23 {
-        return byte == b'-';
-    }
-    matches!(byte, b'0'..=b'9' | b'A'..=b'F' | b'a'..=b'f')
-}
-
-// Whether a text is that of an identifier: 36 bytes, hyphens behind 8, 4, 4 and 4 hexadecimal digits of either case.
-fn is_identifier(text: &[u8]) -> bool
-    ensures { result ≡ is_id text.now }
-{
-    if text.len() != 36 {
-        return false;
-    }
-    for (place, byte) in text.iter().enumerate() {
-        if !can_stand(place, *byte) {
-            return false;
-        }
-    }
-    true
-}
+use crate::header::Header;
+use sd_names::Id;
 
 // The part of a name behind its last `/`.
 fn last_part_of(name: &[u8]) -> &[u8]
@@ -55,5 +34,20 @@ pub(crate) fn is_fine(head: &[u8], span: u64, at: u64, size: u32) -> bool
         return false;
     }
     let from = at as usize;
-    is_identifier(last_part_of(&head[from..from + size as usize]))
+    Id::read(last_part_of(&head[from..from + size as usize])).is_some()
+}
+
+/// The identifier with which the backing file's name ends, behind its last `/` where it has one; None exactly where
+/// there is no backing file. The header is the one that these bytes were read as.
+pub fn backing_id(header: &Header, head: &[u8]) -> Option<Id>
+    requires { header_of head.now ≡ Ok header.now }
+    ensures value { result ≡ backing_id header.now head.now }
+    ensures none { IfNone result (header.now.backing_file_offset ≡ 0) }
+    ensures some { IfSome result (λ _. header.now.backing_file_offset ≢ 0) }
+{
+    if header.backing_file_offset == 0 {
+        return None;
+    }
+    let from = header.backing_file_offset as usize;
+    Id::read(last_part_of(&head[from..][..header.backing_file_size as usize]))
 }
