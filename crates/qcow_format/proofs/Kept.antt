@@ -1,5 +1,5 @@
 -- What holds of each header that is read: the rules on its fields, on its tables and on its backing file's name.
-use Rattle.std.proofs.Common.{◌≡◌, ℕ, zero, suc, ◌+◌, ◌%◌, ◌^◌, ◌≤◌, Bool, true, false, not, List, [], ◌∷◌, w64, Option, Some, None, Result, Ok, Err, refl, sym, ap, ◌∙◌, subst, arith, eqb-true, nat_lt, nat_le, length, take, drop, min}
+use Rattle.std.proofs.Common.{◌≡◌, ℕ, zero, suc, ◌+◌, ◌%◌, ◌^◌, ◌≤◌, Bool, true, false, not, List, [], ◌∷◌, w64, Option, Some, None, Ok, Err, refl, sym, ap, ◌∙◌, subst, arith, eqb-true, nat_lt, nat_le, length, take, drop}
 use Rattle.std.specs.Prelude.{◌==◌, ◌&&◌, ◌||◌, ◌≢◌, ◌-◌, if◌then◌else◌, IfNone}
 use Rattle.std.specs.Option.{is_some}
 use Rattle.std.proofs.lemmas.Bool.{eqb-false, ne_eqb}
@@ -8,7 +8,7 @@ use Rattle.std.proofs.lemmas.List.{drop-take, length-take}
 use Rattle.sd_names.specs.Id.{id_of}
 use Rattle.sd_names.specs.declared.id.Id.{Id}
 use Rattle.sd_names.specs.declared.fault.LayerFault.{LayerFault}
-use Rattle.sd_names.specs.declared.fault.LayerFault.TheVariants.{Short, HeaderShape, Size, Magic, Version, Bits, Encrypted, Snapshots, Feature, RefcountOrder}
+use Rattle.sd_names.specs.declared.fault.LayerFault.TheVariants.{Short, HeaderShape, Magic, Version, Bits, Encrypted, Snapshots, Feature, RefcountOrder}
 use Rattle.sd_names.specs.declared.kinds.Format.{Format}
 use Rattle.qcow_format.specs.declared.header.Header.{Header}
 use Rattle.std.specs.Int.{trailing_zeros}
@@ -16,7 +16,7 @@ use Rattle.qcow_format.specs.declared.header.TheConstants.{MAGIC}
 use Rattle.qcow_format.specs.Format.{◌>>=◌, walked}
 use Rattle.qcow_format.specs.Name.{backing_id, is_id, is_name, last_part, touches}
 use Rattle.qcow_format.specs.Header.{header_of, fine_fields, fields_of, field_fault, first_fault, shape_of, sized, with_format, head_size, has_shape, has_aligned_tables, has_length, has_name, is_closed, mapped}
-use Rattle.qcow_format.proofs.Accepted.{bind_ok, fine_ok, sized_ok}
+use Rattle.qcow_format.proofs.Accepted.{bind_ok, sized_ok}
 
 both : (a b : Bool) → (a && b) ≡ true → (a ≡ true) × (b ≡ true)
 both true true e = (refl, refl)

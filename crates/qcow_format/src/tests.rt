@@ -1,7 +1,7 @@
 ghost use Rattle.qcow_format.specs.Written.{HasRoom};
 
 use super::*;
-use sd_names::{Format, LayerFault};
+use sd_names::{Format, Id, LayerFault};
 use std::alloc::{AllocError, Global};
 use std::test::Fail;
 
@@ -117,6 +117,30 @@ fn reads_what_qemu_img_writes(rt: HostRuntime) -> Result<(), Fail> {
         .ok()
         .ok_or("it is a header too")?;
     assert_eq!(rt; small.name, (136, 36));
+    Ok(())
+}
+
+// The identifier of the backing file, where the head has a header.
+fn backing(head: &[u8]) -> Option<Option<Id>> {
+    match Header::read(head) {
+        Ok(header) => Some(backing_id(&header, head)),
+        Err(_) => None,
+    }
+}
+
+#[test]
+fn reads_the_backing_files_identifier(rt: HostRuntime) -> Result<(), Fail> {
+    let id = Id::read(&NAME);
+    let mut head = layer(rt.alloc())?;
+    assert!(rt; backing(&head) == Some(id));
+    lay(&mut head, 14, &[0xfb, 0xf6, 0, 0, 0, 46]);
+    lay(&mut head, 64_502, b"../images/");
+    assert!(rt; backing(&head) == Some(id));
+    lay(&mut head, 64_548, b"0");
+    lay(&mut head, 19, &[47]);
+    assert!(rt; backing(&head).is_none());
+    lay(&mut head, 8, &[0; 8]);
+    assert!(rt; backing(&head) == Some(None));
     Ok(())
 }
 

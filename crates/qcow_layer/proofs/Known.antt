@@ -1,0 +1,125 @@
+-- What stays known of a file, and what an opening that knows it says of its steps.
+use Rattle.std.proofs.Common.{◌≡◌, ℕ, ◌*◌, ◌^◌, ◌<◌, ◌≤◌, Bool, true, false, List, Option, Some, None, Result, Ok, Err, refl, sym, ap, ◌∙◌, arith, nat_lt}
+use Rattle.std.specs.Prelude.{unwrap_or, if◌then◌else◌}
+use Rattle.std.proofs.lemmas.Bool.Decides.{nat_tests}
+use Rattle.sd_names.specs.declared.fault.LayerFault.{LayerFault}
+use Rattle.sd_names.specs.declared.fault.LayerFault.TheVariants.{Short, Size}
+use Rattle.sd_names.specs.declared.place.Place.{Place}
+use Rattle.shared_disk.specs.Changes.{grown, raised}
+use Rattle.shared_disk.specs.Content.{Content, File, own_of, seen, zero_sector}
+use Rattle.shared_disk.specs.SectorCalls.{IsGrown}
+use Rattle.qcow_format.specs.Header.{header_of}
+use Rattle.qcow_format.specs.declared.header.Header.{Header}
+use Rattle.qcow_format.proofs.Kept.{backing_id-none}
+use Rattle.image_model.specs.File as image
+use Rattle.image_model.specs.File.{file_of, sector_in}
+use Rattle.image_model.specs.Soundness.{layer_header, layer_header_of}
+use Rattle.qcow_layer.specs.Left.{IsOf}
+use Rattle.qcow_layer.specs.Opening.{SameLength}
+use Rattle.qcow_layer.specs.Phases.{HasHeader, IsOpened, Knows, PhaseKnows}
+use Rattle.qcow_layer.specs.Seen.{IsSeen}
+use Rattle.qcow_layer.specs.declared.work.Target.{Target}
+use Rattle.qcow_layer.specs.declared.work.Work.{Work}
+use Rattle.qcow_layer.specs.declared.work.Phase.{Phase}
+use Rattle.qcow_layer.specs.declared.work.Phase.TheVariants.{Begun, Sized, Counting, Blocks, L1, L2}
+use Rattle.qcow_layer.proofs.Pieces.{past_end, same_file}
+use Rattle.qcow_layer.proofs.Starts.{size_of}
+
+-- ---- the bound of an opening
+
+one_header : (r : Result Header LayerFault) (a b : Header) → r ≡ Ok a → r ≡ Ok b → a ≡ b
+one_header (Ok h) a b e f = cc
+one_header (Err fault) a b e f = absurd cc
+
+work_of : (capacity count : ℕ) (sectors : ℕ → List ℕ) (work : Work) (h : Header) → HasHeader capacity (file_of count sectors) work
+    → layer_header (file_of count sectors) capacity ≡ Ok h → work.marks.size ≡ (file_of count sectors).size → work.marks.cluster ≡ 2 ^ work.header.cluster_bits
+    → (work.header ≡ h) × (work.marks.size ≡ 512 * count) × (work.marks.cluster ≡ 2 ^ h.cluster_bits)
+work_of capacity count sectors work h has is sized wide =
+    let same = one_header (layer_header (file_of count sectors) capacity) work.header h has.0 is in
+    (same, sized ∙ size_of count sectors, wide ∙ ap (λ (x : Header). 2 ^ x.cluster_bits) same)
+
+pub bounds : (target : Target) (host count : ℕ) (sectors : ℕ → List ℕ) (phase : Phase) (h : Header) (d : Content) → Knows target host count sectors phase d
+    → layer_header (file_of count sectors) target.capacity ≡ Ok h → IsOf h (512 * count) phase
+bounds target host count sectors Begun h d knows is = tt
+bounds target host count sectors (Sized length) h d knows is = knows.holds.0
+bounds target host count sectors (Counting work next block) h d knows is =
+    let w = knows.holds.is_work in work_of target.capacity count sectors work h w.header is w.size w.cluster
+bounds target host count sectors (Blocks work k) h d knows is =
+    let w = knows.holds.0 in work_of target.capacity count sectors work h w.header is w.fits.size w.fits.cluster
+bounds target host count sectors (L1 work i) h d knows is =
+    let w = knows.holds in work_of target.capacity count sectors work h w.header is w.fits.size w.fits.cluster
+bounds target host count sectors (L2 work i table j) h d knows is =
+    let w = knows.holds.0 in work_of target.capacity count sectors work h w.header is w.fits.size w.fits.cluster
+
+-- ---- what others may do
+
+holds_on : (capacity before after count : ℕ) (sectors : ℕ → List ℕ) (phase : Phase) → PhaseKnows capacity before count sectors phase → SameLength phase before after
+    → PhaseKnows capacity after count sectors phase
+holds_on capacity before after count sectors Begun holds same = holds ∙ sym same
+holds_on capacity before after count sectors (Sized length) holds same = holds
+holds_on capacity before after count sectors (Counting work next block) holds same = holds
+holds_on capacity before after count sectors (Blocks work k) holds same = holds
+holds_on capacity before after count sectors (L1 work i) holds same = holds
+holds_on capacity before after count sectors (L2 work i table j) holds same = holds
+
+pub survives : (target : Target) (host count : ℕ) (sectors : ℕ → List ℕ) (phase : Phase) (d e : Content) → (knows : Knows target host count sectors phase d)
+    → (s : IsSeen host target.place count sectors e) → SameLength phase knows.seen.file.size s.file.size → Knows target host count sectors phase e
+survives target host count sectors phase d e knows s same = record {
+  seen = s;
+  holds = holds_on target.capacity knows.seen.file.size s.file.size count sectors phase knows.holds same;
+}
+
+pub untouched : (host count : ℕ) (place : Place) (sectors : ℕ → List ℕ) (d e : Content) → e.file place ≡ d.file place → IsSeen host place count sectors d → IsSeen host place count sectors e
+untouched host count place sectors d e same s = record { file = s.file; there = same ∙ s.there; long = s.long; alone = s.alone; same = s.same }
+
+module _ (host count size : ℕ) (place : Place) (sectors : ℕ → List ℕ) (d e : Content) (s : IsSeen host place count sectors d)
+    (none : (k : ℕ) → s.file.size ≤ k → own_of host k s.file.loose ≡ None) where
+  zeros : (k : ℕ) → s.file.size ≤ k → unwrap_or (own_of host k s.file.loose) zero_sector ≡ sector_in count sectors k
+  unfolding zero_sector
+  zeros k past = ap (λ (o : Option (List ℕ)). unwrap_or o zero_sector) (none k past) ∙ sym (past_end count k sectors (omega (arith, past, s.long)))
+
+  raised_same : (k : ℕ) → seen host (raised size s.file) k ≡ sector_in count sectors k
+  raised_same k = go (nat_lt k s.file.size) refl
+    where
+      low : nat_lt k s.file.size ≡ true → k < s.file.size
+      low t = grind (arith, nat_tests)
+
+      high : nat_lt k s.file.size ≡ false → s.file.size ≤ k
+      high t = grind (arith, nat_tests)
+
+      go : (t : Bool) → nat_lt k s.file.size ≡ t → unwrap_or (own_of host k s.file.loose) (if nat_lt k s.file.size then s.file.stable k else zero_sector) ≡ sector_in count sectors k
+      go true t = ap (λ (b : Bool). unwrap_or (own_of host k s.file.loose) (if b then s.file.stable k else zero_sector)) t ∙ s.same k (low t)
+      go false t = ap (λ (b : Bool). unwrap_or (own_of host k s.file.loose) (if b then s.file.stable k else zero_sector)) t ∙ zeros k (high t)
+
+  longer : (t : Bool) → nat_lt s.file.size size ≡ t → e.file place ≡ Some (if t then raised size s.file else s.file) → IsSeen host place count sectors e
+  longer false t is = record { file = s.file; there = is; long = s.long; alone = s.alone; same = s.same }
+  longer true t is = record { file = raised size s.file; there = is; long = omega (arith, s.long, below t); alone = s.alone; same = λ k lt. raised_same k }
+    where
+      below : nat_lt s.file.size size ≡ true → s.file.size < size
+      below t = grind (arith, nat_tests)
+
+  pub longer_seen : IsGrown d place size e → IsSeen host place count sectors e
+  longer_seen grows =
+      let same : s.file ≡ grows.0 = same_file d place grows.0 s.file grows.1 s.there in
+      longer (nat_lt s.file.size size) refl (grows.2.here ∙ ap (λ (f : File). Some (grown size f)) (sym same))
+
+-- ---- the parent
+
+kept_header : (h x : Header) (b : Bool) → (if b then Err (Size x.size) else Ok x) ≡ Ok h → x ≡ h
+kept_header h x true e = absurd cc
+kept_header h x false e = cc
+
+header_in : (file : image.File) (capacity : ℕ) (h : Header) → layer_header file capacity ≡ Ok h → header_of file.head ≡ Ok h
+unfolding layer_header
+header_in file capacity h e = go (nat_lt file.size 512) (header_of file.head) refl e
+  where
+    go : (b : Bool) (r : Result Header LayerFault) → header_of file.head ≡ r → (if b then Err Short else layer_header_of capacity r) ≡ Ok h → header_of file.head ≡ Ok h
+    go true r is e = absurd cc
+    go false (Err fault) is e = absurd cc
+    go false (Ok x) is e = is ∙ ap (λ (g : Header). Ok g) (kept_header h x (nat_lt x.size capacity) e)
+
+pub parent_none : (capacity : ℕ) (file : image.File) (work : Work) → IsOpened capacity file work
+    → (work.parent ≡ None → work.header.backing_file_offset ≡ 0) × (work.header.backing_file_offset ≡ 0 → work.parent ≡ None)
+parent_none capacity file work opened =
+    let none = backing_id-none file.head work.header (header_in file capacity work.header opened.header.0) in
+    (λ e. none.0 (sym opened.header.1 ∙ e), λ e. opened.header.1 ∙ none.1 e)

@@ -1,0 +1,21 @@
+use Rattle.std.proofs.Common.{sym}
+use Rattle.qcow_format.proofs.Kept.{cluster_range, tables_aligned}
+use Rattle.qcow_layer.proofs.Starts.{sized_faulted}
+use Rattle.qcow_layer.proofs.starting.step_sized.Goals as goal
+
+pub begin_counting-requires-clause-low : goal.begin_counting-requires-clause-low
+begin_counting-requires-clause-low g c = (cluster_range c.in-Ok-read.header c.in-Ok-read.ensures.sound.no_fault).0
+
+pub begin_counting-requires-clause-high : goal.begin_counting-requires-clause-high
+begin_counting-requires-clause-high g c = (cluster_range c.in-Ok-read.header c.in-Ok-read.ensures.sound.no_fault).1
+
+pub begin_counting-requires-clause-l1_aligned : goal.begin_counting-requires-clause-l1_aligned
+begin_counting-requires-clause-l1_aligned g c = (tables_aligned c.in-Ok.head c.in-Ok-read.header (sym c.in-Ok-read.ensures.value)).0
+
+pub begin_counting-requires-clause-table_aligned : goal.begin_counting-requires-clause-table_aligned
+begin_counting-requires-clause-table_aligned g c = (tables_aligned c.in-Ok.head c.in-Ok-read.header (sym c.in-Ok-read.ensures.value)).1
+
+pub returns-in-Err-read-clause-content : goal.returns-in-Err-read-clause-content
+returns-in-Err-read-clause-content g c d tells =
+    let call = c.in-Ok.ensures.content d tells in
+    (call.0, call.1, sized_faulted c.args.target c.args.host c.args.length c.in-Ok.head c.in-Err-read.fault d call.0 call.2.0 call.2.1 c.in-Err-read.ensures.value)

@@ -1,0 +1,42 @@
+use Rattle.std.proofs.Common.{ℕ, ◌≡◌, ◌*◌, ◌/◌, ◌^◌, ◌<◌, ◌≤◌, subst, arith}
+use Rattle.qcow_layer.specs.declared.work.Phase.TheVariants.{Blocks}
+use Rattle.qcow_layer.proofs.Walks.{read_refused, blocks_end, blocks_faulted, blocks_more, few_entries}
+use Rattle.qcow_layer.proofs.walking.step_blocks.Goals as goal
+
+low_index : (clusters bits k n c : ℕ) → n ≡ clusters → c ≡ 2 ^ bits → k < n * (c / 8) → k < clusters * (2 ^ bits / 8)
+low_index clusters bits k n c e f lt = subst (λ m. k < m * (2 ^ bits / 8)) e (subst (λ m. k < n * (m / 8)) f lt)
+
+pub returns-then-k-entries-clause-content : goal.returns-then-k-entries-clause-content
+returns-then-k-entries-clause-content g c d tells =
+    (d, tells, blocks_end c.args.target c.args.host c.args.work c.args.k d (subst (λ n. n * (2 ^ c.args.work.header.cluster_bits / 8) ≤ c.args.k) c.from.ensures (subst (λ n. c.from.result * (n / 8) ≤ c.args.k) c.cluster_bytes.ensures c.if-k-entries.true)))
+
+pub check_blocks-requires-clause-few : goal.check_blocks-requires-clause-few
+check_blocks-requires-clause-few g c = few_entries c.args.work.header.refcount_table_clusters c.args.work.header.cluster_bits c.args.k (omega (arith, c.from.ensures, c.from.type_inv)) c.args.work.high (low_index c.args.work.header.refcount_table_clusters c.args.work.header.cluster_bits c.args.k c.from.result c.cluster_bytes.result c.from.ensures c.cluster_bytes.ensures c.if-k-entries.false)
+
+pub returns-in-Err-clause-counts : goal.returns-in-Err-clause-counts
+returns-in-Err-clause-counts g c = record { one_call = c.in-Err.ensures.one.one_call; no_less = c.in-Err.ensures.one.no_less; cause = c.in-Err.ensures.cause }
+
+pub returns-in-Err-clause-content : goal.returns-in-Err-clause-content
+returns-in-Err-clause-content g c d tells =
+    let call = c.in-Err.ensures.content d tells in
+    (call.0, call.1, read_refused c.args.target c.args.host _ (Blocks c.args.work c.args.k) c.in-Err.refusal d call.0 call.2.0 call.2.1)
+
+pub returns-in-Some-clause-content : goal.returns-in-Some-clause-content
+returns-in-Some-clause-content g c d tells =
+    let call = c.in-Ok.ensures.content d tells in (
+      call.0,
+      call.1,
+      blocks_faulted c.args.target c.args.host c.args.work c.check_blocks.new.marks c.args.k c.saturating_add-at.result c.in-Ok.sector d call.0
+          (low_index c.args.work.header.refcount_table_clusters c.args.work.header.cluster_bits c.args.k c.from.result c.cluster_bytes.result c.from.ensures c.cluster_bytes.ensures c.if-k-entries.false)
+          (λ low. omega (arith, low, c.saturating_add-at.ensures)) call.2.1 c.in-Some.fault c.in-Some.ensures call.2.0,
+    )
+
+pub returns-in-None-clause-content : goal.returns-in-None-clause-content
+returns-in-None-clause-content g c d tells =
+    let call = c.in-Ok.ensures.content d tells in (
+      call.0,
+      call.1,
+      blocks_more c.args.target c.args.host c.args.work c.check_blocks.new.marks c.args.k c.saturating_add-at.result c.in-Ok.sector d call.0
+          (low_index c.args.work.header.refcount_table_clusters c.args.work.header.cluster_bits c.args.k c.from.result c.cluster_bytes.result c.from.ensures c.cluster_bytes.ensures c.if-k-entries.false)
+          (λ low. omega (arith, low, c.saturating_add-at.ensures)) call.2.1 _ _ _ _ _ c.in-None.ensures call.2.0,
+    )

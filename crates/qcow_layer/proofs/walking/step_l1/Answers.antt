@@ -1,0 +1,45 @@
+use Rattle.std.proofs.Common.{Some, None, Ok, Err, subst, arith}
+use Rattle.qcow_layer.specs.Positions.{PassesL1}
+use Rattle.qcow_layer.proofs.L1Walks.{l1_end, l1_faulted, l1_without, l1_with}
+use Rattle.qcow_layer.proofs.walking.step_l1.Goals as goal
+
+pub returns-then-i-header-clause-content : goal.returns-then-i-header-clause-content
+returns-then-i-header-clause-content g c d tells = (d, tells, l1_end c.args.target c.args.host c.args.work c.args.i d c.if-i-header.true)
+
+pub returns-in-Err-admit_l1-clause-content : goal.returns-in-Err-admit_l1-clause-content
+returns-in-Err-admit_l1-clause-content g c d tells =
+    let call = c.in-Ok.ensures.content d tells in (
+      call.0,
+      call.1,
+      l1_faulted c.args.target c.args.host c.args.work c.admit_l1.new.marks c.args.i c.saturating_add-at.result c.in-Ok.sector d call.0 c.if-i-header.false
+          (λ low. omega (arith, low, c.saturating_add-at.ensures, c.from.ensures)) call.2.1 c.in-Err-admit_l1.fault
+          (subst (λ b. PassesL1 c.args.work.header c.args.i b c.args.work.marks c.admit_l1.new.marks (Err c.in-Err-admit_l1.fault)) c.word_at-bits.ensures
+          (subst (λ n. PassesL1 c.args.work.header n c.word_at-bits.result c.args.work.marks c.admit_l1.new.marks (Err c.in-Err-admit_l1.fault)) c.from-in-Ok.ensures c.in-Err-admit_l1.ensures))
+          call.2.0,
+    )
+
+pub returns-in-None-clause-content : goal.returns-in-None-clause-content
+returns-in-None-clause-content g c d tells =
+    let call = c.in-Ok.ensures.content d tells in (
+      call.0,
+      call.1,
+      l1_without c.args.target c.args.host c.args.work c.admit_l1.new.marks c.args.i c.saturating_add-at.result c.in-Ok.sector d call.0 c.if-i-header.false
+          (λ low. omega (arith, low, c.saturating_add-at.ensures, c.from.ensures)) call.2.1 _ _ _ _ _
+          (subst (λ b. PassesL1 c.args.work.header c.args.i b c.args.work.marks c.admit_l1.new.marks (Ok None)) c.word_at-bits.ensures
+          (subst (λ n. PassesL1 c.args.work.header n c.word_at-bits.result c.args.work.marks c.admit_l1.new.marks (Ok None)) c.from-in-Ok.ensures
+          (subst (λ o. PassesL1 c.args.work.header c.from-in-Ok.result c.word_at-bits.result c.args.work.marks c.admit_l1.new.marks (Ok o)) c.in-None.is c.in-Ok-admit_l1.ensures)))
+          call.2.0,
+    )
+
+pub returns-in-Some-clause-content : goal.returns-in-Some-clause-content
+returns-in-Some-clause-content g c d tells =
+    let call = c.in-Ok.ensures.content d tells in (
+      call.0,
+      call.1,
+      l1_with c.args.target c.args.host c.args.work c.admit_l1.new.marks c.args.i c.saturating_add-at.result c.in-Ok.sector d call.0 c.if-i-header.false
+          (λ low. omega (arith, low, c.saturating_add-at.ensures, c.from.ensures)) call.2.1 _ _ _ _ _ c.in-Some.table
+          (subst (λ b. PassesL1 c.args.work.header c.args.i b c.args.work.marks c.admit_l1.new.marks (Ok (Some c.in-Some.table))) c.word_at-bits.ensures
+          (subst (λ n. PassesL1 c.args.work.header n c.word_at-bits.result c.args.work.marks c.admit_l1.new.marks (Ok (Some c.in-Some.table))) c.from-in-Ok.ensures
+          (subst (λ o. PassesL1 c.args.work.header c.from-in-Ok.result c.word_at-bits.result c.args.work.marks c.admit_l1.new.marks (Ok o)) c.in-Some.is c.in-Ok-admit_l1.ensures)))
+          call.2.0,
+    )

@@ -1,0 +1,10 @@
+pub mod Bits
+pub mod Checked
+pub mod Items
+pub mod Left
+pub mod Looking
+pub mod Marks
+pub mod Opening
+pub mod Phases
+pub mod Positions
+pub mod Seen

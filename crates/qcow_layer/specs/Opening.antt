@@ -1,0 +1,86 @@
+-- An opening between its steps, and the layer that it finds.
+use Rattle.std.specs.Prelude.{◌≡◌, ℕ, ◌<◌, List, Option}
+use Rattle.sd_names.specs.declared.id.Id.{Id}
+use Rattle.sd_names.specs.declared.place.Place.{Place}
+use Rattle.sd_names.specs.declared.turn.Turn.{Turn}
+use Rattle.sd_names.specs.Turn.{MatchTurn}
+use Rattle.shared_disk.specs.Content.{Content}
+use Rattle.shared_disk.specs.Calls.{IsSame}
+use Rattle.qcow_format.specs.declared.header.Header.{Header}
+use Rattle.image_model.specs.File.{file_of}
+use Rattle.qcow_layer.specs.Left.{IsOf, left_of}
+use Rattle.qcow_layer.specs.Phases.{IsGone, IsOpened, IsRefused, Knows}
+use Rattle.qcow_layer.specs.Seen.{IsSeen}
+use Rattle.qcow_layer.specs.declared.layer.Layer.{Layer}
+use Rattle.qcow_layer.specs.declared.opening.Opening.{Opening}
+use Rattle.qcow_layer.specs.declared.work.Phase.{Phase}
+use Rattle.qcow_layer.specs.declared.work.Phase.TheVariants.{Begun, Sized, Counting, Blocks, L1, L2}
+use Rattle.qcow_layer.specs.declared.work.Target.{Target}
+
+-- which layer is opened
+abbrev pub target_of : Opening → Target
+target_of o = o.target
+
+abbrev pub target_kept : Layer → Target
+target_kept layer = layer.target
+
+abbrev pub volume_kept : Layer → Id
+volume_kept layer = layer.target.volume
+
+abbrev pub header_kept : Layer → Header
+header_kept layer = layer.work.header
+
+abbrev pub parent_kept : Layer → Option Id
+parent_kept layer = layer.work.parent
+
+-- What an opening knows between its steps: the host sees these sectors in the file, which has so many of them, or had
+-- when its length was asked, and zeros behind them.
+abbrev pub KnowsFile : Opening → ℕ → ℕ → (ℕ → List ℕ) → Content → Type 0
+KnowsFile o host count sectors d = Knows o.target host count sectors o.phase d
+
+-- an opening that was begun knows each file that the host sees, as long as it is
+pub record IsBegun (o : Opening) (id : Id) (at : Place) (bytes : ℕ) : Type 0 where
+  pub volume : (target_of o).volume ≡ id
+  pub place : (target_of o).place ≡ at
+  pub capacity : (target_of o).capacity ≡ bytes
+  pub knows : (host count : ℕ) (sectors : ℕ → List ℕ) (d : Content) → (seen : IsSeen host at count sectors d) → count ≡ seen.file.size → KnowsFile o host count sectors d
+
+-- the file's length is the same, unless it was asked already
+abbrev pub SameLength : Phase → ℕ → ℕ → Type 0
+SameLength Begun before after = after ≡ before
+SameLength (Sized length) before after = Unit {0}
+SameLength (Counting work next block) before after = Unit {0}
+SameLength (Blocks work k) before after = Unit {0}
+SameLength (L1 work i) before after = Unit {0}
+SameLength (L2 work i table j) before after = Unit {0}
+
+abbrev pub HasSameLength : Opening → ℕ → ℕ → Type 0
+HasSameLength o before after = SameLength o.phase before after
+
+-- the layer is of the opening's volume
+abbrev pub KeepsTarget : Opening → Turn Opening Layer (Unit {0}) → Type 0
+KeepsTarget o turn = MatchTurn turn (λ next. target_of next ≡ target_of o) (λ layer. target_kept layer ≡ target_of o) (λ _ _. Unit {0})
+
+-- the header and the size of the file are these, as far as they are known
+abbrev pub OpensFile : Header → ℕ → Opening → Type 0
+OpensFile h size o = IsOf h size o.phase
+
+-- how many more steps the opening of a file of so many bytes with this header takes at the most
+abbrev pub steps_left : Header → ℕ → Opening → ℕ
+steps_left h size o = left_of h size o.phase
+
+-- whatever the disk tells, an opening comes nearer to its end
+abbrev pub NearsEnd : Opening → Turn Opening Layer (Unit {0}) → Type 0
+NearsEnd o turn = MatchTurn turn
+    (λ next. (h : Header) (size : ℕ) → OpensFile h size next → OpensFile h size o × (steps_left h size next < steps_left h size o))
+    (λ _. Unit {0})
+    (λ _ _. Unit {0})
+
+-- A step changes nothing. Where the file is known it is known still, or the layer is sound, or the refusal has the first fault.
+pub record OpensOn (o : Opening) (host : ℕ) (turn : Turn Opening Layer (Unit {0})) (d e : Content) : Type 0 where
+  pub same : IsSame d e
+  pub gone : MatchTurn turn (λ _. Unit {0}) (λ _. Unit {0}) (λ _ refusal. IsGone (target_of o) refusal d)
+  pub after : (count : ℕ) (sectors : ℕ → List ℕ) → KnowsFile o host count sectors d → MatchTurn turn
+      (λ next. KnowsFile next host count sectors e)
+      (λ layer. IsOpened (target_of o).capacity (file_of count sectors) layer.work)
+      (λ _ refusal. IsRefused (target_of o) (file_of count sectors) refusal)

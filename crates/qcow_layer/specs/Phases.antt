@@ -1,0 +1,119 @@
+-- What an opening knows between its steps, and what a step does.
+use Rattle.std.specs.Prelude.{◌≡◌, ℕ, ◌+◌, ◌*◌, ◌/◌, ◌%◌, ◌<◌, ◌≤◌, false, nat_lt, List, Option, Some, None, Ok}
+use Rattle.sd_names.specs.declared.id.Id.{Id}
+use Rattle.sd_names.specs.declared.refusal.Refusal.{Refusal}
+use Rattle.sd_names.specs.declared.refusal.Refusal.TheVariants.{DiskFault, Vanished, LayerRefused, OutOfMemory}
+use Rattle.sd_names.specs.declared.turn.Absence.TheVariants as absence
+use Rattle.sd_names.specs.declared.turn.Turn.{Turn}
+use Rattle.sd_names.specs.Turn.{MatchTurn}
+use Rattle.shared_disk.specs.Content.{Content}
+use Rattle.shared_disk.specs.Calls.{IsSame}
+use Rattle.qcow_format.specs.declared.header.Header.{Header}
+use Rattle.qcow_format.specs.Header.{header_of}
+use Rattle.qcow_format.specs.Name.{backing_id}
+use Rattle.image_model.specs.File.{File, file_of}
+use Rattle.image_model.specs.Layer.{Tables, cluster_size, entries, count_of, block_span, block_place, l1_entry}
+use Rattle.image_model.specs.Soundness.{layer_header, HasFault, IsSound}
+use Rattle.qcow_layer.specs.Checked.{Checked}
+use Rattle.qcow_layer.specs.Items.{layer_of}
+use Rattle.qcow_layer.specs.Marks.{MarksFile, used_by, counted_by}
+use Rattle.qcow_layer.specs.Positions.{block_position, l1_position, l2_position}
+use Rattle.qcow_layer.specs.Seen.{IsSeen, HasCauseNow, head_of}
+use Rattle.qcow_layer.specs.declared.work.Target.{Target}
+use Rattle.qcow_layer.specs.declared.work.Work.{Work}
+use Rattle.qcow_layer.specs.declared.work.Phase.{Phase}
+use Rattle.qcow_layer.specs.declared.work.Phase.TheVariants.{Begun, Sized, Counting, Blocks, L1, L2}
+
+-- the layer that is looked at
+abbrev pub tables_of : Work → File → Tables
+tables_of work file = layer_of work.header file
+
+-- the header is that of the file, and the parent the identifier with which the backing file's name in it ends
+abbrev pub HasHeader : ℕ → File → Work → Type 0
+HasHeader capacity file work = (layer_header file capacity ≡ Ok work.header) × (work.parent ≡ backing_id work.header file.head)
+
+-- the header is that of the file, whose size and clusters' size are known
+pub record IsWork (capacity : ℕ) (file : File) (work : Work) : Type 0 where
+  pub header : HasHeader capacity file work
+  pub size : work.marks.size ≡ file.size
+  pub cluster : work.marks.cluster ≡ cluster_size (tables_of work file)
+
+-- The counts of the clusters below `next` are noted, and no others; where a block is told it is that of `next`.
+pub record IsCounting (capacity : ℕ) (file : File) (work : Work) (next : ℕ) (block : Option ℕ) : Type 0 where
+  pub is_work : IsWork capacity file work
+  pub unused : (c : ℕ) → used_by work.marks c ≡ false
+  pub below : (c : ℕ) → c < next → c * cluster_size (tables_of work file) < file.size → counted_by work.marks c ≡ nat_lt 0 (count_of (tables_of work file) c)
+  pub above : (c : ℕ) → next ≤ c → counted_by work.marks c ≡ false
+  pub whole : next % 256 ≡ 0
+  pub known : (place : ℕ) → block ≡ Some place → block_place (tables_of work file) (next / block_span (tables_of work file)) ≡ place
+  pub some : (place : ℕ) → block ≡ Some place → 0 < place
+  pub start : block ≡ None → next % block_span (tables_of work file) ≡ 0
+
+-- The counts are noted, and the positions below n are clean.
+pub record IsChecking (capacity : ℕ) (file : File) (work : Work) (n : ℕ) : Type 0 where
+  pub header : HasHeader capacity file work
+  pub fits : MarksFile work.marks (tables_of work file)
+  pub clean : Checked (tables_of work file) capacity n (used_by work.marks)
+
+-- What is known in a phase of a file that has, or had when it was asked, so many sectors. `now` is how many it has.
+abbrev pub PhaseKnows : ℕ → ℕ → ℕ → (ℕ → List ℕ) → Phase → Type 0
+PhaseKnows capacity now count sectors Begun = count ≡ now
+PhaseKnows capacity now count sectors (Sized length) = (length ≡ 512 * count) × (512 ≤ length)
+PhaseKnows capacity now count sectors (Counting work next block) = IsCounting capacity (file_of count sectors) work next block
+PhaseKnows capacity now count sectors (Blocks work k) =
+    IsChecking capacity (file_of count sectors) work (block_position (tables_of work (file_of count sectors)) k) × (k % 64 ≡ 0) × (k ≤ work.header.refcount_table_clusters * entries (tables_of work (file_of count sectors)))
+PhaseKnows capacity now count sectors (L1 work i) =
+    IsChecking capacity (file_of count sectors) work (l1_position (tables_of work (file_of count sectors)) i)
+PhaseKnows capacity now count sectors (L2 work i table j) =
+    IsChecking capacity (file_of count sectors) work (l2_position (tables_of work (file_of count sectors)) i j)
+    × (i < work.header.l1_size) × (l1_entry (tables_of work (file_of count sectors)) i ≡ Ok (Some table)) × (j % 64 ≡ 0) × (j ≤ entries (tables_of work (file_of count sectors)))
+
+pub record Knows (target : Target) (host count : ℕ) (sectors : ℕ → List ℕ) (phase : Phase) (d : Content) : Type 0 where
+  pub seen : IsSeen host target.place count sectors d
+  pub holds : PhaseKnows target.capacity seen.file.size count sectors phase
+
+-- A layer that was opened: its file is sound, and its size and its counts are known.
+pub record IsOpened (capacity : ℕ) (file : File) (work : Work) : Type 0 where
+  pub sound : IsSound file capacity
+  pub header : HasHeader capacity file work
+  pub fits : MarksFile work.marks (tables_of work file)
+
+-- A refusal is the layer's first fault; where the file is there it isn't that it isn't.
+abbrev pub IsRefused : Target → File → Refusal → Type 0
+IsRefused target file (LayerRefused v fault) = (v ≡ target.volume) × HasFault file target.capacity fault
+IsRefused target file (DiskFault n) = Unit {0}
+IsRefused target file OutOfMemory = Unit {0}
+IsRefused target file _ = ⊥
+
+-- what a step leaves where the file is known
+abbrev pub After : Target → ℕ → ℕ → (ℕ → List ℕ) → Turn Phase Work (Unit {0}) → Content → Type 0
+After target host count sectors turn e = MatchTurn turn
+    (λ next. Knows target host count sectors next e)
+    (λ work. IsOpened target.capacity (file_of count sectors) work)
+    (λ _ refusal. IsRefused target (file_of count sectors) refusal)
+
+-- it isn't there, where a step says so
+abbrev pub IsGone : Target → Refusal → Content → Type 0
+IsGone target (Vanished a) d = (a ≡ absence.NoFile) × (d.file target.place ≡ None)
+IsGone target _ d = Unit {0}
+
+-- a step changes nothing on the disk
+pub record Steps (target : Target) (host : ℕ) (phase : Phase) (turn : Turn Phase Work (Unit {0})) (d e : Content) : Type 0 where
+  pub same : IsSame d e
+  pub gone : MatchTurn turn (λ _. Unit {0}) (λ _. Unit {0}) (λ _ refusal. IsGone target refusal d)
+  pub after : (count : ℕ) (sectors : ℕ → List ℕ) → Knows target host count sectors phase d → After target host count sectors turn e
+
+-- a step without a call of the disk: whatever is there, it is as a step that changes nothing
+abbrev pub StepsAlone : Target → Phase → Turn Phase Work (Unit {0}) → Type 0
+StepsAlone target phase turn = (host : ℕ) (d : Content) → Steps target host phase turn d d
+
+-- where a file of this length has this header, of which the profile's rules hold, the next phase is as it has to be
+abbrev pub BeginsCounting : Target → ℕ → Header → Option Id → Turn Phase Work (Unit {0}) → Type 0
+BeginsCounting target length header parent turn = (host count : ℕ) (sectors : ℕ → List ℕ) (d : Content) → IsSeen host target.place count sectors d
+    → length ≡ 512 * count → 512 ≤ length → header_of (head_of count sectors) ≡ Ok header → parent ≡ backing_id header (head_of count sectors) → After target host count sectors turn d
+
+-- what a step does to the disk's counts, whatever the disk tells
+pub record StepCounts {S T : Type 0} (faults faults' calls calls' : ℕ) (turn : Turn S T (Unit {0})) : Type 0 where
+  pub one_call : calls' ≤ calls + 1
+  pub no_less : faults ≤ faults'
+  pub cause : MatchTurn turn (λ _. Unit {0}) (λ _. Unit {0}) (λ _ refusal. HasCauseNow faults faults' refusal)

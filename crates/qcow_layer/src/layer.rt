@@ -1,0 +1,39 @@
+// A layer that was opened.
+ghost use Rattle.std.specs.Prelude.{◌≡◌};
+
+use crate::work::{Target, Work};
+use qcow_format::Header;
+use sd_names::Id;
+
+/// A sound layer of a volume's image, as its file has it.
+#[derive(Debug, Drop)]
+pub struct Layer {
+    pub(crate) target: Target,
+    pub(crate) work: Work,
+}
+
+impl Layer {
+    ghost use Rattle.qcow_layer.specs.Opening.{header_kept, parent_kept, volume_kept};
+
+    /// The volume whose layer it is.
+    pub fn volume(&self) -> Id
+        ensures { result ≡ volume_kept self.now }
+    {
+        self.target.volume
+    }
+
+    /// The header that the layer keeps.
+    pub fn header(&self) -> &Header
+        ensures { result.now ≡ header_kept self.now }
+    {
+        &self.work.header
+    }
+
+    /// The volume that the layer lies over: the identifier with which the backing file's name in that header ends. None
+    /// where there is no backing file.
+    pub fn parent(&self) -> Option<Id>
+        ensures { result ≡ parent_kept self.now }
+    {
+        self.work.parent
+    }
+}

@@ -1,0 +1,61 @@
+// Opening a layer: it is found sound, or its first fault is told.
+ghost use Rattle.std.specs.Prelude.{◌≡◌, MatchResult};
+ghost use Rattle.shared_disk.specs.Calls.{Told};
+ghost use Rattle.qcow_layer.specs.Phases.{StepCounts};
+
+use crate::layer::Layer;
+use crate::phases::step_phase;
+use crate::work::{Phase, Target};
+use sd_names::{HostId, Id, Place, Refusal, Turn};
+use shared_disk::SharedDisk;
+use std::alloc::Global;
+
+/// The opening of a layer, in steps of at most one call of the disk: the file's length, its header, the counts of its
+/// clusters, then what its tables name, in the order of the positions.
+#[derive(Drop)]
+pub struct Opening {
+    alloc: Global,
+    target: Target,
+    phase: Phase,
+}
+
+impl Opening {
+    ghost use Rattle.qcow_layer.specs.Opening.{IsBegun, KeepsTarget, NearsEnd, OpensOn};
+
+    /// The opening of the layer of a volume, whose file stands at `place` and whose capacity is so many bytes. It takes
+    /// no memory yet, and never refuses.
+    pub fn begin(alloc: Global, volume: Id, place: Place, capacity: u64) -> Result<Opening, Refusal>
+        ensures { MatchResult result (λ opening. IsBegun opening volume place capacity) (λ _. ⊥) }
+    {
+        Ok(Opening {
+            alloc,
+            target: Target {
+                volume,
+                place,
+                capacity,
+            },
+            phase: Phase::Begun,
+        })
+    }
+
+    /// Makes at most one call of the disk. `Done` comes where the layer is sound, `LayerRefused` with its first fault
+    /// where it isn't, `OutOfMemory` where the length is known and there is no room for a bit per cluster.
+    pub fn step<D: SharedDisk>(self, host: HostId, disk: &mut D) -> Turn<Opening, Layer, ()>
+        ensures counts { StepCounts (D.faults disk.old) (D.faults disk.new) (D.calls disk.old) (D.calls disk.new) result }
+        ensures keeps { KeepsTarget self result }
+        ensures falls { NearsEnd self result }
+        ensures content { Told (D.content disk.old) (D.content disk.new) (OpensOn self host result) }
+    {
+        let alloc = self.alloc;
+        let target = self.target;
+        match step_phase(alloc, target, host, disk, self.phase) {
+            Turn::More(phase) => Turn::More(Opening {
+                alloc,
+                target,
+                phase,
+            }),
+            Turn::Done(work) => Turn::Done(Layer { target, work }),
+            Turn::Ended(_, refusal) => Turn::Ended((), refusal),
+        }
+    }
+}

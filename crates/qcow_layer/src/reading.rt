@@ -1,0 +1,46 @@
+// Reads of a layer's file, one call of the disk each. What stands past the file's end reads as zeros.
+ghost use Rattle.std.specs.Prelude.{◌≡◌, ℕ, ◌/◌};
+ghost use Rattle.shared_disk.specs.Calls.{IsAligned, Told};
+ghost use Rattle.qcow_layer.specs.Seen.{OneCall, ReadCause, ReadsHead, ReadsSector};
+
+use sd_names::{HostId, Place, Refusal};
+use shared_disk::{SharedDisk, refusal_for};
+
+/// The longest head of a layer, in bytes.
+pub(crate) const HEAD: usize = 65536;
+
+/// Reads the sector that begins at a place of the file, in bytes.
+pub(crate) fn read_sector<D: SharedDisk>(
+    host: HostId,
+    disk: &mut D,
+    place: Place,
+    at: u64,
+) -> Result<[u8; 512], Refusal>
+    requires { IsAligned at }
+    ensures one { OneCall (D.faults disk.old) (D.faults disk.new) (D.calls disk.old) (D.calls disk.new) }
+    ensures cause { ReadCause (D.faults disk.old) (D.faults disk.new) result }
+    ensures content { Told (D.content disk.old) (D.content disk.new) (ReadsSector host place (at / 512) (D.faults disk.new) result) }
+{
+    let mut sector = [0; 512];
+    match disk.read_at(host, place, at, &mut sector) {
+        Ok(_) => Ok(sector),
+        Err(answer) => Err(refusal_for(answer, disk)),
+    }
+}
+
+/// Reads the first 65,536 bytes of the file.
+pub(crate) fn read_head<D: SharedDisk>(
+    host: HostId,
+    disk: &mut D,
+    place: Place,
+) -> Result<[u8; HEAD], Refusal>
+    ensures one { OneCall (D.faults disk.old) (D.faults disk.new) (D.calls disk.old) (D.calls disk.new) }
+    ensures cause { ReadCause (D.faults disk.old) (D.faults disk.new) result }
+    ensures content { Told (D.content disk.old) (D.content disk.new) (ReadsHead host place (D.faults disk.new) result) }
+{
+    let mut head = [0; HEAD];
+    match disk.read_at(host, place, 0, &mut head) {
+        Ok(_) => Ok(head),
+        Err(answer) => Err(refusal_for(answer, disk)),
+    }
+}

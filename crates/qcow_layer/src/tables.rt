@@ -1,0 +1,112 @@
+// The entries of the refcount table and of the L1 and L2 tables, each admitted in its turn.
+ghost use Rattle.std.specs.Prelude.{◌≡◌, ◌+◌, ◌*◌, ◌^◌, ◌<◌, ◌≤◌, nat_le};
+ghost use Rattle.qcow_layer.specs.Positions.{PassesBlock, PassesBlocks, PassesEntry, PassesEntries, PassesL1};
+
+use crate::item::{block_item, cluster_bytes, l1_item, l2_item};
+use crate::marks::Marks;
+use crate::sector::word_at;
+use qcow_format::Header;
+use sd_names::LayerFault;
+
+// Entry k of the refcount table.
+fn admit_block(header: &Header, marks: &mut Marks, k: u64, bits: u64) -> Option<LayerFault>
+    requires bits { header.now.cluster_bits ≤ 21 }
+    requires few { k < 2 ^ 60 }
+    ensures { PassesBlock header.now k bits marks.old marks.new result }
+{
+    marks.admit(&block_item(
+        header,
+        header.refcount_table_offset.saturating_add(8 * k),
+        bits,
+    ))
+}
+
+/// The 64 entries of the refcount table from k on, which stand in this sector.
+pub(crate) fn check_blocks(
+    header: &Header,
+    marks: &mut Marks,
+    k: u64,
+    sector: &[u8; 512],
+) -> Option<LayerFault>
+    requires bits { header.now.cluster_bits ≤ 21 }
+    requires few { k < 2 ^ 59 }
+    ensures { PassesBlocks header.now k 64 sector.now marks.old marks.new result }
+{
+    for j in 0..64 {
+        let bits = word_at(sector, j);
+        if let Some(fault) = admit_block(header, marks, k + j as u64, bits) {
+            return Some(fault);
+        }
+    }
+    None
+}
+
+// Whether a cluster of the virtual disk, by its number, begins at or past the capacity.
+fn is_past(header: &Header, capacity: u64, cluster: u64) -> bool
+    requires bits { header.now.cluster_bits ≤ 21 }
+    ensures { result ≡ nat_le capacity (cluster * 2 ^ header.now.cluster_bits) }
+{
+    cluster >= capacity.div_ceil(cluster_bytes(header))
+}
+
+// Entry j of the L2 table that L1 entry i names.
+fn admit_entry(
+    header: &Header,
+    capacity: u64,
+    marks: &mut Marks,
+    i: u64,
+    table: u64,
+    j: u64,
+    bits: u64,
+) -> Option<LayerFault>
+    requires bits { header.now.cluster_bits ≤ 21 }
+    requires few { i < 2 ^ 32 }
+    requires narrow { j < 2 ^ 33 }
+    ensures { PassesEntry header.now capacity i table j bits marks.old marks.new result }
+{
+    let cluster = i * (cluster_bytes(header) / 8) + j;
+    let past = is_past(header, capacity, cluster);
+    marks.admit(&l2_item(header, past, table.saturating_add(8 * j), bits))
+}
+
+/// The 64 entries from j on of the L2 table that L1 entry i names, which stand in this sector.
+pub(crate) fn check_entries(
+    header: &Header,
+    capacity: u64,
+    marks: &mut Marks,
+    i: u64,
+    table: u64,
+    j: u64,
+    sector: &[u8; 512],
+) -> Option<LayerFault>
+    requires bits { header.now.cluster_bits ≤ 21 }
+    requires few { i < 2 ^ 32 }
+    requires narrow { j < 2 ^ 32 }
+    ensures { PassesEntries header.now capacity i table j 64 sector.now marks.old marks.new result }
+{
+    for m in 0..64 {
+        let bits = word_at(sector, m);
+        if let Some(fault) = admit_entry(header, capacity, marks, i, table, j + m as u64, bits) {
+            return Some(fault);
+        }
+    }
+    None
+}
+
+/// L1 entry i: the L2 table that it names, or None, or its fault.
+pub(crate) fn admit_l1(
+    header: &Header,
+    marks: &mut Marks,
+    i: u64,
+    bits: u64,
+) -> Result<Option<u64>, LayerFault>
+    requires bits { header.now.cluster_bits ≤ 21 }
+    requires few { i < 2 ^ 32 }
+    ensures { PassesL1 header.now i bits marks.old marks.new result }
+{
+    let item = l1_item(header, header.l1_table_offset.saturating_add(8 * i), bits);
+    match marks.admit(&item) {
+        Some(fault) => Err(fault),
+        None => Ok(item.name),
+    }
+}
