@@ -1,5 +1,5 @@
 -- What taking, releasing and clearing a lease answer and leave.
-use Rattle.std.specs.Prelude.{◌≡◌, ◌≢◌, ◌⊎◌, ℕ, ◌<◌, ◌≤◌, ◌+◌, ◌==◌, not, Bool, if◌then◌else◌, List, Option, Some, None, Result, Ok, Err, MatchResult}
+use Rattle.std.specs.Prelude.{◌≡◌, ◌≢◌, ◌⊎◌, ℕ, ◌<◌, ◌≤◌, ◌+◌, ◌==◌, not, if◌then◌else◌, List, Option, Some, None, Result, Ok, Err}
 use Rattle.std.specs.Str.{bytes_eq}
 use Rattle.sd_names.specs.UpSet.{Hosts}
 use Rattle.sd_names.specs.declared.id.Id.{Id}
@@ -18,13 +18,13 @@ use Rattle.shared_disk.specs.SectorCalls.{Exchanges}
 use Rattle.shared_disk.specs.declared.disk.DiskAnswer.{DiskAnswer}
 use Rattle.shared_disk.specs.declared.disk.Exchanged.{Exchanged}
 use Rattle.shared_disk.specs.declared.disk.Exchanged.TheVariants.{Done, Found}
-use Rattle.lease_area.specs.Move.{freed, is_open, may_take, owner_of, taken, version_of}
+use Rattle.lease_area.specs.Move.{is_open, may_take, owner_of, taken, version_of}
 use Rattle.lease_area.specs.Sector.{sector_bytes, sector_in}
 use Rattle.lease_area.specs.declared.lease.Lease.{Lease as Held}
 use Rattle.lease_area.specs.declared.sector.Kind.{Kind}
 use Rattle.lease_area.specs.declared.sector.LeaseRecord.{LeaseRecord}
 use Rattle.lease_area.specs.declared.sector.Sector.{Sector}
-use Rattle.lease_area.specs.declared.sector.Sector.TheVariants.{Empty, Lease}
+use Rattle.lease_area.specs.declared.sector.Sector.TheVariants.{Lease}
 
 -- the leases file of a domain
 abbrev pub leases_of : Id → Place
