@@ -1,9 +1,9 @@
 -- What an exchange put there is there on each outcome.
-use Rattle.std.proofs.Common.{◌≡◌, ◌<◌, ℕ, ◌==◌, Bool, true, false, List, Option, Some, None, unwrap_or, eq-eqb, refl, sym, ap, ◌∙◌, subst}
+use Rattle.std.proofs.Common.{◌≡◌, ◌<◌, ℕ, List, eq-eqb, refl, subst}
 use Rattle.sd_names.specs.declared.id.Id.{Id}
-use Rattle.shared_disk.specs.Changes.{apart_from, exchanged}
-use Rattle.shared_disk.specs.Content.{Content, File, Loose}
-use Rattle.shared_disk.specs.Crash.{IsAlso, IsFileOutcome, IsOutcome, IsSettled}
+use Rattle.shared_disk.specs.Changes.{exchanged}
+use Rattle.shared_disk.specs.Content.{Content, File}
+use Rattle.shared_disk.specs.Crash.{IsOutcome, IsSettled}
 use Rattle.shared_disk.proofs.AtPlace.{one_file, settled_stays}
 use Rattle.shared_disk.proofs.Toolkit.{exchanged_settled}
 use Rattle.lease_area.specs.Hold.{IsMoved, Stands, leases_of}

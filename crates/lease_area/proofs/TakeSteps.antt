@@ -1,22 +1,18 @@
 -- What taking a sector leaves, from what its exchange left.
-use Rattle.std.proofs.Common.{◌≡◌, ◌≢◌, ◌⊎◌, ℕ, ◌+◌, ◌<◌, ◌≤◌, ◌==◌, ◌&&◌, ◌||◌, not, Bool, true, false, List, [], ◌∷◌, Option, Some, None, Result, Ok, Err, unwrap_or, refl, sym, ap, ◌∙◌, subst, inl, inr, arith, eqb-true}
-use Rattle.std.proofs.lemmas.Bool.{false≢true}
+use Rattle.std.proofs.Common.{◌≡◌, ◌≢◌, ◌⊎◌, ℕ, ◌<◌, ◌≤◌, ◌==◌, ◌&&◌, not, Bool, true, false, List, Option, Some, None, Ok, Err, unwrap_or, refl, sym, ap, ◌∙◌, subst, inl, inr, arith}
 use Rattle.std.proofs.lemmas.Option.{none-some}
 use Rattle.std.proofs.lemmas.Slice.Eq.{bytes_eq-Decides}
 use Rattle.std.specs.Str.{bytes_eq}
-use Rattle.std.specs.List.{Contains}
 use Rattle.std.specs.Prelude.{if◌then◌else◌}
 use Rattle.std.proofs.lemmas.Bool.{and_parts}
 use Rattle.sd_names.specs.UpSet.{Hosts}
 use Rattle.sd_names.specs.declared.id.Id.{Id}
-use Rattle.sd_names.specs.declared.place.Place.{Place}
-use Rattle.sd_names.specs.declared.refusal.Refusal.{Refusal}
 use Rattle.sd_names.specs.declared.refusal.Refusal.TheVariants.{DiskFault, ImageHeld, LverMismatch, NoImage, PrevMismatch, SpmHeld}
-use Rattle.shared_disk.specs.Calls.{IsPut, IsSame}
-use Rattle.shared_disk.specs.Changes.{apart_from, exchanged}
-use Rattle.shared_disk.specs.Content.{Content, File, IsLooseAt, Loose, Sees, own_of, seen}
+use Rattle.shared_disk.specs.Calls.{IsSame}
+use Rattle.shared_disk.specs.Changes.{exchanged}
+use Rattle.shared_disk.specs.Content.{Content, File, Sees}
 use Rattle.shared_disk.specs.Crash.{IsSettled}
-use Rattle.shared_disk.specs.Places.{id_is, place_is}
+use Rattle.shared_disk.specs.Places.{id_is}
 use Rattle.shared_disk.specs.Refusal.{IsRisen, refusal_of}
 use Rattle.shared_disk.specs.SectorCalls.{Exchanges, IsExchanged, IsFound}
 use Rattle.shared_disk.specs.declared.disk.DiskAnswer.{DiskAnswer}
@@ -26,7 +22,7 @@ use Rattle.shared_disk.specs.declared.disk.DiskAnswer.TheVariants.{NoFile, Exist
 use Rattle.shared_disk.proofs.AtPlace.{one_file, put_same_file}
 use Rattle.shared_disk.proofs.Toolkit.{exchanged_same, sees_settled}
 use Rattle.lease_area.specs.Hold.{IsMoved, Stands, image_refusal, leases_of, met_answer, role_refusal, take_answer, take_refusal}
-use Rattle.lease_area.specs.Move.{IsFreed, IsTaken, LeaseMove, RoleMove, TaskMove, image_taken, is_open, is_task, made_by, may_take, next_sector, owner_of, role_taken, taken, taken_by, version_of}
+use Rattle.lease_area.specs.Move.{IsFreed, IsTaken, LeaseMove, RoleMove, TaskMove, image_taken, is_open, is_task, may_take, next_sector, owner_of, role_taken, taken, taken_by, version_of}
 use Rattle.lease_area.specs.Sector.{sector_bytes, sector_in}
 use Rattle.lease_area.specs.declared.sector.Kind.{Kind}
 use Rattle.lease_area.specs.declared.sector.Kind.TheVariants.{Free, Guest, Task}

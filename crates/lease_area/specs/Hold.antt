@@ -1,5 +1,5 @@
 -- What taking, releasing and clearing a lease answer and leave.
-use Rattle.std.specs.Prelude.{◌≡◌, ◌≢◌, ◌⊎◌, ℕ, ◌<◌, ◌≤◌, ◌+◌, ◌==◌, not, Bool, if◌then◌else◌, List, Option, Some, None, Result, Ok, Err, MatchResult}
+use Rattle.std.specs.Prelude.{◌≡◌, ◌≢◌, ◌⊎◌, ℕ, ◌<◌, ◌≤◌, ◌+◌, ◌==◌, not, if◌then◌else◌, List, Option, Some, None, Result, Ok, Err}
 use Rattle.std.specs.Str.{bytes_eq}
 use Rattle.sd_names.specs.UpSet.{Hosts}
 use Rattle.sd_names.specs.declared.id.Id.{Id}
@@ -13,13 +13,18 @@ use Rattle.shared_disk.specs.Changes.{exchanged}
 use Rattle.shared_disk.specs.Content.{Content, File}
 use Rattle.shared_disk.specs.Crash.{IsSettled}
 use Rattle.shared_disk.specs.Places.{id_is}
-use Rattle.lease_area.specs.Move.{freed, is_open, may_take, owner_of, taken, version_of}
+use Rattle.shared_disk.specs.Refusal.{refusal_of}
+use Rattle.shared_disk.specs.SectorCalls.{Exchanges}
+use Rattle.shared_disk.specs.declared.disk.DiskAnswer.{DiskAnswer}
+use Rattle.shared_disk.specs.declared.disk.Exchanged.{Exchanged}
+use Rattle.shared_disk.specs.declared.disk.Exchanged.TheVariants.{Done, Found}
+use Rattle.lease_area.specs.Move.{is_open, may_take, owner_of, taken, version_of}
 use Rattle.lease_area.specs.Sector.{sector_bytes, sector_in}
 use Rattle.lease_area.specs.declared.lease.Lease.{Lease as Held}
 use Rattle.lease_area.specs.declared.sector.Kind.{Kind}
 use Rattle.lease_area.specs.declared.sector.LeaseRecord.{LeaseRecord}
 use Rattle.lease_area.specs.declared.sector.Sector.{Sector}
-use Rattle.lease_area.specs.declared.sector.Sector.TheVariants.{Empty, Lease}
+use Rattle.lease_area.specs.declared.sector.Sector.TheVariants.{Lease}
 
 -- the leases file of a domain
 abbrev pub leases_of : Id → Place
@@ -101,6 +106,29 @@ GivesUp lease new faults bytes (Ok _) d e = (bytes ≡ sector_bytes (Lease (reco
 GivesUp lease new faults bytes (Err refusal) d e =
     ((bytes ≢ sector_bytes (Lease (record_of lease))) × (refusal ≡ SpmHeld (owner_in (sector_in bytes)) (version_in (sector_in bytes))) × IsSame d e)
     ⊎ ((refusal ≡ DiskFault faults) × (IsSame d e ⊎ ((bytes ≡ sector_bytes (Lease (record_of lease))) × IsMoved d (domain_of lease) (slot_of lease) new e)))
+
+-- The call is one exchange of a sector, the expected one for the next, whatever stands there; and what the call answers
+-- belongs to what the exchange answered.
+abbrev pub ByOneExchange : {A : Type 0} → ℕ → Id → ℕ → Sector → Sector → (Result Exchanged DiskAnswer → A) → A → Content → Content → Type 0
+ByOneExchange host sd slot expect next answer_for result d e =
+    (answer : Result Exchanged DiskAnswer) × Exchanges d host (leases_of sd) slot (sector_bytes expect) (sector_bytes next) answer e × (result ≡ answer_for answer)
+
+-- what taking a sector answers, by what its exchange answered; `faults` is the disk's count after it
+abbrev pub taking_answer : Hosts → ℕ → ℕ → Kind → Id → Sector → ℕ → Result Exchanged DiskAnswer → Result LeaseRecord Refusal
+taking_answer up host slot kind image expect faults (Ok Done) = met_answer (taken up host slot kind image expect) (take_refusal up host slot image expect (Some expect))
+taking_answer up host slot kind image expect faults (Ok (Found bytes)) = Err (take_refusal up host slot image expect (sector_in bytes))
+taking_answer up host slot kind image expect faults (Err answer) = Err (refusal_of answer faults)
+
+-- what giving a lease up answers, by what its exchange answered
+abbrev pub giving_answer : ℕ → Result Exchanged DiskAnswer → Result (Unit {0}) Refusal
+giving_answer faults (Ok Done) = Ok tt
+giving_answer faults (Ok (Found bytes)) = Err (SpmHeld (owner_in (sector_in bytes)) (version_in (sector_in bytes)))
+giving_answer faults (Err answer) = Err (refusal_of answer faults)
+
+-- the lease that was taken, by what its sector holds
+abbrev pub record_taken : Result Held Refusal → Result LeaseRecord Refusal
+record_taken (Ok lease) = Ok (record_of lease)
+record_taken (Err refusal) = Err refusal
 
 -- what one exchange does to the counts of the disk, whatever the disk tells
 pub record OneExchange (faults faults' calls calls' : ℕ) : Type 0 where

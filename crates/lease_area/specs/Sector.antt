@@ -1,5 +1,5 @@
 -- Lease sectors, and the bytes that spell them. Numbers are big-endian.
-use Rattle.std.specs.Prelude.{◌≡◌, ℕ, ◌+◌, ◌≤◌, ◌<◌, ◌^◌, ◌==◌, ◌&&◌, Bool, List, [], ◌∷◌, ◌++◌, Option, Some, None, length, take, drop, replicate, codes, slice_index, nat_le, nat_lt, if◌then◌else◌, option_map}
+use Rattle.std.specs.Prelude.{◌≡◌, ℕ, ◌≤◌, ◌<◌, ◌^◌, ◌==◌, ◌&&◌, Bool, List, ◌∷◌, ◌++◌, Option, Some, None, take, drop, replicate, codes, slice_index, nat_le, nat_lt, if◌then◌else◌, option_map}
 use Rattle.std.specs.Str.{bytes_eq}
 use Rattle.byteorder.specs.Endian.{big_bytes, big_number}
 use Rattle.sd_names.specs.Id.{IsIdBytes}

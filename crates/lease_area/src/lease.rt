@@ -18,11 +18,11 @@ pub struct Lease {
 }
 
 impl Lease {
-    ghost use Rattle.std.specs.Prelude.{ℕ, List, true};
+    ghost use Rattle.std.specs.Prelude.{ℕ, ◌+◌, ◌-◌, ◌^◌, List, min, true};
     ghost use Rattle.sd_names.specs.UpSet.{Hosts};
     ghost use Rattle.lease_area.specs.Move.{LeaseMove, freed, is_task};
     ghost use Rattle.lease_area.specs.declared.sector.Sector.TheVariants.{Empty, Lease as OfImage};
-    ghost use Rattle.lease_area.specs.Hold.{GivesUp, OneExchange, Stands, domain_of, record_of, slot_of};
+    ghost use Rattle.lease_area.specs.Hold.{ByOneExchange, GivesUp, OneExchange, Stands, domain_of, giving_answer, record_of, slot_of};
     ghost use Rattle.shared_disk.specs.Refusal.{IsRisen};
 
     /// The sector's number.
@@ -49,6 +49,8 @@ impl Lease {
         ensures counts { OneExchange (D.faults disk.old) (D.faults disk.new) (D.calls disk.old) (D.calls disk.new) }
         ensures cause { IfErr result (IsRisen (D.faults disk.old) (D.faults disk.new)) }
         ensures content { Told (D.content disk.old) (D.content disk.new) (λ d e. (bytes : List ℕ) → Stands d (domain_of self) (slot_of self) bytes → GivesUp self (OfImage (freed (record_of self))) (D.faults disk.new) bytes result d e) }
+        ensures counted { D.calls disk.new ≡ min (D.calls disk.old + 1) (2 ^ 64 - 1) }
+        ensures exchange { Told (D.content disk.old) (D.content disk.new) (λ d e. ByOneExchange host (domain_of self) (slot_of self) (OfImage (record_of self)) (OfImage (freed (record_of self))) (giving_answer (D.faults disk.new)) result d e) }
         ensures moves { (up : Hosts) → LeaseMove up host (is_task (record_of self).kind) (slot_of self) (OfImage (record_of self)) (OfImage (freed (record_of self))) }
     {
         let free = Sector::Lease(LeaseRecord {
@@ -68,6 +70,8 @@ impl Lease {
         ensures counts { OneExchange (D.faults disk.old) (D.faults disk.new) (D.calls disk.old) (D.calls disk.new) }
         ensures cause { IfErr result (IsRisen (D.faults disk.old) (D.faults disk.new)) }
         ensures content { Told (D.content disk.old) (D.content disk.new) (λ d e. (bytes : List ℕ) → Stands d (domain_of self) (slot_of self) bytes → GivesUp self Empty (D.faults disk.new) bytes result d e) }
+        ensures counted { D.calls disk.new ≡ min (D.calls disk.old + 1) (2 ^ 64 - 1) }
+        ensures exchange { Told (D.content disk.old) (D.content disk.new) (λ d e. ByOneExchange host (domain_of self) (slot_of self) (OfImage (record_of self)) Empty (giving_answer (D.faults disk.new)) result d e) }
         ensures moves { (up : Hosts) → LeaseMove up host true (slot_of self) (OfImage (record_of self)) Empty }
     {
         self.give_up(host, Sector::Empty, disk)
@@ -78,6 +82,8 @@ impl Lease {
         ensures counts { OneExchange (D.faults disk.old) (D.faults disk.new) (D.calls disk.old) (D.calls disk.new) }
         ensures cause { IfErr result (IsRisen (D.faults disk.old) (D.faults disk.new)) }
         ensures content { Told (D.content disk.old) (D.content disk.new) (λ d e. (bytes : List ℕ) → Stands d (domain_of self) (slot_of self) bytes → GivesUp self next (D.faults disk.new) bytes result d e) }
+        ensures counted { D.calls disk.new ≡ min (D.calls disk.old + 1) (2 ^ 64 - 1) }
+        ensures exchange { Told (D.content disk.old) (D.content disk.new) (λ d e. ByOneExchange host (domain_of self) (slot_of self) (OfImage (record_of self)) next (giving_answer (D.faults disk.new)) result d e) }
     {
         match swap(
             host,

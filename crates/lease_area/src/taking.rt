@@ -1,7 +1,7 @@
 // Taking a lease, by one exchange.
-ghost use Rattle.std.specs.Prelude.{◌≡◌, ◌≢◌, ◌<◌, ℕ, List, IfErr, IfOk, IfSome};
+ghost use Rattle.std.specs.Prelude.{◌≡◌, ◌≢◌, ◌<◌, ◌+◌, ◌-◌, ◌^◌, ℕ, List, min, IfErr, IfOk, IfSome};
 ghost use Rattle.shared_disk.specs.Calls.{Told};
-ghost use Rattle.lease_area.specs.Hold.{OneExchange, Stands, Takes, domain_of, record_of, slot_of};
+ghost use Rattle.lease_area.specs.Hold.{ByOneExchange, OneExchange, Stands, Takes, domain_of, record_of, record_taken, slot_of, taking_answer};
 ghost use Rattle.shared_disk.specs.Refusal.{IsRisen};
 ghost use Rattle.lease_area.specs.Move.{LeaseMove, image_taken, is_task, next_sector, no_image, role_taken, taken, taken_by};
 ghost use Rattle.lease_area.specs.Sector.{IsSector};
@@ -138,6 +138,8 @@ pub fn take<D: SharedDisk>(
     ensures held { IfOk result (λ lease. ((record_of lease).owner ≡ host) × ((record_of lease).kind ≡ kind)) }
     ensures moves { IfOk result (λ lease. LeaseMove up.now host (is_task kind) slot expect.now (OfImage (record_of lease))) }
     ensures content { Told (D.content disk.old) (D.content disk.new) (λ d e. (bytes : List ℕ) → Stands d sd slot bytes → Takes up.now host sd slot expect.now kind image (D.faults disk.new) bytes result d e) }
+    ensures counted { D.calls disk.new ≡ min (D.calls disk.old + 1) (2 ^ 64 - 1) }
+    ensures exchange { Told (D.content disk.old) (D.content disk.new) (λ d e. ByOneExchange host sd slot expect.now (next_sector (taken up.now host slot kind image expect.now) expect.now) (taking_answer up.now host slot kind image expect.now (D.faults disk.new)) (record_taken result) d e) }
 {
     let new = taken(up, host, slot, kind, image, expect);
     let next = next_sector(new, expect);

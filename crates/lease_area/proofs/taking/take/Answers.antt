@@ -1,4 +1,4 @@
-use Rattle.std.proofs.Common.{◌≡◌, ◌∙◌, refl, sym, ap, inl, inr, subst, List, ℕ, Some, None, Option, Err}
+use Rattle.std.proofs.Common.{◌∙◌, sym, ap, inl, inr, subst, Option, Err}
 use Rattle.sd_names.specs.declared.refusal.Refusal.{Refusal}
 use Rattle.lease_area.specs.Hold.{take_refusal}
 use Rattle.shared_disk.specs.Refusal.{IsRisen}

@@ -1,4 +1,4 @@
-use Rattle.std.proofs.Common.{◌≡◌, ◌*◌, ◌+◌, List, ℕ, ap, ◌∙◌}
+use Rattle.std.proofs.Common.{◌*◌, ◌+◌, List, ℕ, ap, ◌∙◌}
 use Rattle.shared_disk.specs.Content.{sector_of}
 use Rattle.lease_area.specs.Noted.{noted_one}
 use Rattle.lease_area.specs.Sector.{sector_in}

@@ -1,6 +1,6 @@
 -- Each part stands behind the parts before it, and zeros behind it.
 use Rattle.std.proofs.Common.{ℕ, List, [], ◌∷◌, ◌++◌, ◌∙◌, replicate, refl, arith, codes, length-append}
-use Rattle.lease_area.specs.Sector.{kind_code, record_bytes}
+use Rattle.lease_area.specs.Sector.{record_bytes}
 use Rattle.lease_area.proofs.sector.LeaseRecord.write.Goals as goal
 
 pub returns : goal.returns

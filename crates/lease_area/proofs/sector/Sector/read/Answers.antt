@@ -1,4 +1,4 @@
-use Rattle.std.proofs.Common.{◌≡◌, ◌∙◌, ap}
+use Rattle.std.proofs.Common.{◌∙◌, ap}
 use Rattle.lease_area.specs.Sector.{sector_in}
 use Rattle.lease_area.proofs.Fields.{sector_back}
 use Rattle.lease_area.proofs.sector.Sector.read.Goals as goal
