@@ -1,4 +1,4 @@
-use Rattle.std.proofs.Common.{refl, ap, min, sym, ◌+◌, ◌-◌, ◌^◌, ◌∙◌, ◌≡◌}
+use Rattle.std.proofs.Common.{ap, min, sym, ◌+◌, ◌-◌, ◌^◌, ◌∙◌, ◌≡◌}
 use Rattle.std.proofs.lemmas.Bool.{false≢true}
 use Rattle.shared_disk.specs.Limits.{adds_at_most}
 use Rattle.shared_disk.proofs.Limits.{counted_by, keeps, keeps_listed}

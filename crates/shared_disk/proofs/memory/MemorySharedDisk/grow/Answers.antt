@@ -1,7 +1,7 @@
 use Rattle.std.proofs.Common.{arith, ap, sym, ◌∙◌, ◌≡◌}
-use Rattle.shared_disk.proofs.Causes.{cause_counted, cause_none}
 use Rattle.std.proofs.lemmas.Bool.{false≢true}
 use Rattle.shared_disk.specs.Limits.{adds}
+use Rattle.shared_disk.proofs.Causes.{cause_counted, cause_none}
 use Rattle.shared_disk.proofs.Limits.{keeps, keeps_listed, none_added, uncounted}
 use Rattle.shared_disk.proofs.memory.MemorySharedDisk.grow.Goals as goal
 

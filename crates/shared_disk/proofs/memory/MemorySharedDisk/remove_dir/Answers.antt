@@ -1,7 +1,7 @@
 use Rattle.std.proofs.Common.{arith, ap, sym, ◌∙◌, ◌≡◌}
-use Rattle.shared_disk.proofs.Causes.{cause_counted, cause_none}
 use Rattle.std.proofs.lemmas.Bool.{false≢true}
 use Rattle.shared_disk.specs.Limits.{frees}
+use Rattle.shared_disk.proofs.Causes.{cause_counted, cause_none}
 use Rattle.shared_disk.proofs.Limits.{keeps, keeps_listed, uncounted}
 use Rattle.shared_disk.proofs.memory.MemorySharedDisk.remove_dir.Goals as goal
 

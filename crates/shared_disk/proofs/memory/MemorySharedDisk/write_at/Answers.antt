@@ -1,7 +1,7 @@
 use Rattle.std.proofs.Common.{◌≡◌, ◌+◌, ◌-◌, ◌^◌, min, ◌∙◌, ap, arith, length, sym, ◌/◌}
-use Rattle.shared_disk.proofs.Causes.{cause_counted, cause_exact}
 use Rattle.std.proofs.lemmas.Bool.{false≢true}
 use Rattle.shared_disk.specs.Limits.{adds}
+use Rattle.shared_disk.proofs.Causes.{cause_counted, cause_exact}
 use Rattle.shared_disk.proofs.Limits.{keeps, keeps_listed}
 use Rattle.shared_disk.proofs.memory.MemorySharedDisk.write_at.Goals as goal
 
