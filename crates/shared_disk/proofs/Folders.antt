@@ -1,5 +1,5 @@
 -- What the content of a store is after a folder is removed, and after one is moved.
-use Rattle.std.proofs.Common.{◌≡◌, ◌≢◌, ◌⊎◌, ℕ, ◌≤◌, ◌||◌, Bool, true, false, not, List, [], ◌∷◌, map, Option, Some, None, is_some, refl, sym, ap, subst, ◌∙◌, inl, inr, arith}
+use Rattle.std.proofs.Common.{◌≡◌, ◌≢◌, ◌⊎◌, ℕ, ◌<◌, ◌≤◌, ◌||◌, Bool, true, false, not, List, [], ◌∷◌, length, map, Option, Some, None, is_some, refl, sym, ap, subst, ◌∙◌, inl, inr, arith}
 use Rattle.std.specs.List.{filter, list_any}
 use Rattle.std.specs.Option.{option_map}
 use Rattle.std.proofs.lemmas.Bool.{false≢true}
@@ -21,6 +21,7 @@ use Rattle.shared_disk.proofs.Contents.{Carries, carried, none_at, or_true}
 use Rattle.shared_disk.proofs.Places.{dir_is-apart, dir_is-itself, dir_is-same}
 use Rattle.shared_disk.proofs.Listed.{slot_in}
 use Rattle.shared_disk.proofs.Slots.{found_gone, slot_map, slot_mapped}
+use Rattle.shared_disk.proofs.Within.{left_out_fewer}
 
 -- what a listing answers is above what it was asked
 pub answers_name : (slots : List (Option FileEntry)) (dir : Dir) (after least : Option Name) → IsLeastName slots dir after least → AnswersNameAbove after least
@@ -73,6 +74,9 @@ is_dir_removed dirs dirs1 slots stable log dir other is = record {
   here = ap (λ (ds : List Dir). has_dir ds dir) is ∙ rw (dir_is-apart Root dir (λ e. other (sym e))) (any_gone dir dirs);
   others = λ q apart. ap (λ (ds : List Dir). has_dir ds q) is ∙ ap (λ (b : Bool). dir_is Root q || b) (any_kept q dir dirs apart);
 }
+
+pub fewer_dirs : (dir : Dir) (dirs : List Dir) → dir ≢ Root → has_dir dirs dir ≡ true → length (filter (λ r. not (dir_is r dir)) dirs) < length dirs
+fewer_dirs dir dirs other there = left_out_fewer (λ r. dir_is r dir) dirs (rw (dir_is-apart Root dir (λ e. other (sym e))) at there)
 
 pub housed_kept : (dirs dirs1 : List Dir) (slots : List (Option FileEntry)) (dir : Dir) → dirs1 ≡ filter (λ r. not (dir_is r dir)) dirs → ((n : ℕ) (f : FileEntry) → slot n slots ≡ Some f → f.place.dir ≢ dir)
     → AreHoused dirs slots → AreHoused dirs1 slots

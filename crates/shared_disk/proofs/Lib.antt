@@ -1,6 +1,7 @@
 pub mod Sectors
 pub mod Slots
 pub mod Causes
+pub mod Limits
 pub mod Changes
 pub mod Contents
 pub mod Pieces

@@ -126,3 +126,8 @@ within_step number n k j slots stable o next false t within here past is = is �
 pub put_within : (number k : ℕ) (slots : List (Option FileEntry)) (stable stable1 : Sectors) (next : List ℕ) → IsStableWithin slots stable → k < slot_size (slot number slots)
     → ((n j : ℕ) → sector_at stable1 0 n j ≡ (if number == n && k == j then Some next else sector_at stable 0 n j)) → IsStableWithin slots stable1
 put_within number k slots stable stable1 next within here at = λ n j past. within_step number n k j slots stable (sector_at stable1 0 n j) next (number == n && k == j) refl within here past (at n j)
+
+-- a sector that is put is one more at most
+pub one_at_most : (there : Bool) → (if there then 0 else 1) ≤ 1
+one_at_most true = omega arith
+one_at_most false = omega arith

@@ -1,6 +1,7 @@
 -- Sectors and unsynced writes stay within the sizes of their files, and files in folders that are there.
-use Rattle.std.proofs.Common.{◌≡◌, ℕ, zero, suc, ◌<◌, ◌≤◌, ◌==◌, Bool, true, false, if◌then◌else◌, List, [], ◌∷◌, ◌++◌, length, get_or, reverse, Option, Some, None, eqb-true, refl, sym, ap, subst, ◌∙◌, inl, inr, arith}
-use Rattle.std.specs.List.{Contains, filter}
+use Rattle.std.proofs.Common.{◌≡◌, ℕ, zero, suc, ◌<◌, ◌≤◌, ◌==◌, ◌||◌, Bool, true, false, not, if◌then◌else◌, List, [], ◌∷◌, ◌++◌, length, get_or, reverse, Option, Some, None, eqb-true, refl, sym, ap, subst, ◌∙◌, inl, inr, arith}
+use Rattle.std.specs.List.{Contains, filter, list_any}
+use Rattle.std.proofs.lemmas.Bool.{false≢true}
 use Rattle.std.proofs.lemmas.List.Sums.{count_by-le-length, length-filter}
 use Rattle.std.proofs.lemmas.Option.{same_Some}
 use Rattle.sd_names.specs.declared.place.Dir.{Dir}
@@ -156,3 +157,13 @@ filter_fewer p (x ∷ xs) (suc i) w within is out = fewer_step p x xs (p x) refl
 
 pub filter_no_more : {X : Type 0} (p : X → Bool) (log part : List X) → part ≡ filter p log → length part ≤ length log
 filter_no_more p log part is = let e = ap length is in let f = length-filter p log in let g = count_by-le-length p log in omega (arith, e, f, g)
+
+-- and one that leaves out what there is some of
+left_out_step : {X : Type 0} (p : X → Bool) (x : X) (xs : List X) (b : Bool) → p x ≡ b → (list_any p xs ≡ true → length (filter (λ y. not (p y)) xs) < length xs)
+    → (b || list_any p xs) ≡ true → length (filter (λ y. not (p y)) (x ∷ xs)) < length (x ∷ xs)
+left_out_step p x xs true e rest any = let le = filter_no_more (λ y. not (p y)) xs (filter (λ y. not (p y)) xs) refl in rw e (omega (arith, le))
+left_out_step p x xs false e rest any = let less = rest any in rw e (omega (arith, less))
+
+pub left_out_fewer : {X : Type 0} (p : X → Bool) (xs : List X) → list_any p xs ≡ true → length (filter (λ y. not (p y)) xs) < length xs
+left_out_fewer p [] any = absurd (false≢true any)
+left_out_fewer p (x ∷ xs) any = left_out_step p x xs (p x) refl (left_out_fewer p xs) any

@@ -136,9 +136,9 @@ MakesDir d dir (Err Exists) e = IsSame d e × (d.dir (parent_of dir) ≡ true) �
 MakesDir d dir (Err OutOfFile) e = ⊥
 MakesDir d dir (Err NotEmpty) e = ⊥
 
--- Where the content was told before a call it is told after it, and the two are related.
-abbrev pub Told : Option Content → Option Content → (Content → Content → Type 0) → Type 0
-Told before after R = (d : Content) → before ≡ Some d → (e : Content) × (after ≡ Some e) × R d e
+-- What a disk told of itself before a call it tells after it, and the two are related.
+abbrev pub Told : {A : Type 0} → Option A → Option A → (A → A → Type 0) → Type 0
+Told {A} before after R = (d : A) → before ≡ Some d → (e : A) × (after ≡ Some e) × R d e
 
 -- a count that rose, or stands at its end
 abbrev pub Rose : ℕ → ℕ → Type 0

@@ -1,5 +1,6 @@
 pub mod Content
 pub mod Calls
+pub mod Limits
 pub mod Refusal
 pub mod Places
 pub mod Sectors

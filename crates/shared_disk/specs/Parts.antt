@@ -1,9 +1,10 @@
 -- What the memory disks show of themselves.
-use Rattle.std.specs.Prelude.{◌≡◌, ℕ, List, Option, Some}
+use Rattle.std.specs.Prelude.{◌≡◌, ℕ, List, [], Option, Some}
 use Rattle.shared_disk.specs.declared.honest.Honest.{Honest}
 use Rattle.shared_disk.specs.declared.memory.Memory.{Memory}
 use Rattle.shared_disk.specs.Content.{Content}
-use Rattle.shared_disk.specs.Held.{held, units}
+use Rattle.shared_disk.specs.Held.{held, limits_with, units}
+use Rattle.shared_disk.specs.Limits.{Limits}
 
 -- what it holds, which it tells
 abbrev pub content_of_memory : Memory → Option Content
@@ -21,6 +22,10 @@ failing_of_memory m = m.failing.items
 abbrev pub units_of_memory : Memory → ℕ
 units_of_memory m = units m.store
 
+-- these three, which it tells
+abbrev pub limits_of_memory : Memory → Option Limits
+limits_of_memory m = Some (limits_with (failing_of_memory m) m.store)
+
 -- the second memory disk is the first, but for what it holds and its room
 pub record IsOnlyStore (m n : Memory) : Type 0 where
   pub failing : n.failing ≡ m.failing
@@ -37,3 +42,7 @@ room_of_honest h = h.store.room
 
 abbrev pub units_of_honest : Honest → ℕ
 units_of_honest h = units h.store
+
+-- no call fails but for want of room
+abbrev pub limits_of_honest : Honest → Option Limits
+limits_of_honest h = Some (limits_with [] h.store)

@@ -1,5 +1,5 @@
 // A shared folder in memory that fails for want of room alone.
-ghost use Rattle.std.specs.Prelude.{◌≡◌, ◌≢◌, ℕ, ◌+◌, ◌-◌, ◌*◌, ◌/◌, ◌^◌, ◌<◌, ◌≤◌, min, Some, IfOk, Option};
+ghost use Rattle.std.specs.Prelude.{◌≡◌, ◌≢◌, ℕ, ◌+◌, ◌-◌, ◌*◌, ◌/◌, ◌^◌, ◌<◌, ◌≤◌, min, [], Some, IfOk, Option};
 ghost use Rattle.shared_disk.specs.Content.{Content, IsEmpty};
 
 use crate::counts::{bump, count};
@@ -22,13 +22,14 @@ pub struct Honest {
 }
 
 impl Honest {
-    ghost use Rattle.shared_disk.specs.Parts.{content_of_honest, room_of_honest, units_of_honest};
+    ghost use Rattle.shared_disk.specs.Parts.{content_of_honest, limits_of_honest, room_of_honest, units_of_honest};
 
     /// An empty folder with room for so many units.
     pub fn new(alloc: Global, picks: Vec<Pick>, room: u64) -> Result<Honest, NoMemory>
         ensures empty { IfOk result (λ h. (d : Content) × (content_of_honest h ≡ Some d) × IsEmpty d) }
         ensures room { IfOk result (λ h. room_of_honest h ≡ room) }
         ensures used { IfOk result (λ h. units_of_honest h ≡ 0) }
+        ensures limits { IfOk result (λ h. limits_of_honest h ≡ Some (record { units = 0; room = room; failing = [] })) }
     {
         match Store::new(alloc, room as usize) {
             Ok(store) => Ok(Honest {
@@ -51,13 +52,15 @@ impl Honest {
 }
 
 impl SharedDisk for Honest {
-    ghost use Rattle.shared_disk.specs.Held.{held};
+    ghost use Rattle.shared_disk.specs.Held.{held, limits_with};
 
     ghost content = { λ h. Some (held h.store) };
 
     ghost faults = { λ h. h.faults };
 
     ghost calls = { λ h. h.calls };
+
+    ghost limits = { λ h. Some (limits_with [] h.store) };
 
     fn read_at(
         &mut self,

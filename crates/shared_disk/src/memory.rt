@@ -26,7 +26,7 @@ pub struct Memory {
 }
 
 impl Memory {
-    ghost use Rattle.shared_disk.specs.Parts.{IsOnlyStore, content_of_memory, failing_of_memory, room_of_memory, units_of_memory};
+    ghost use Rattle.shared_disk.specs.Parts.{IsOnlyStore, content_of_memory, failing_of_memory, limits_of_memory, room_of_memory, units_of_memory};
 
     /// An empty folder with room for so many units. The calls with the numbers in `failing` fail; the first call has
     /// the number 0.
@@ -39,6 +39,7 @@ impl Memory {
         ensures empty { IfOk result (λ m. (d : Content) × (content_of_memory m ≡ Some d) × IsEmpty d) }
         ensures room { IfOk result (λ m. room_of_memory m ≡ room) }
         ensures failing { IfOk result (λ m. failing_of_memory m ≡ failing.items) }
+        ensures limits { IfOk result (λ m. limits_of_memory m ≡ Some (record { units = 0; room = room; failing = failing.items })) }
     {
         match Store::new(alloc, room as usize) {
             Ok(store) => Ok(Memory {
@@ -79,6 +80,7 @@ impl Memory {
         ensures calls { self.new.calls ≡ min (self.old.calls + 1) (2 ^ 64 - 1) }
         ensures faults { self.new.faults ≡ (if result then min (self.old.faults + 1) (2 ^ 64 - 1) else self.old.faults) }
         ensures store { self.new.store ≡ self.old.store }
+        ensures failing { self.new.failing ≡ self.old.failing }
         ensures listed { IsTrue result ↔ Contains self.old.failing.items self.old.calls }
     {
         let listed = self.failing.contains(&self.calls);
@@ -91,13 +93,15 @@ impl Memory {
 }
 
 impl SharedDisk for Memory {
-    ghost use Rattle.shared_disk.specs.Held.{held};
+    ghost use Rattle.shared_disk.specs.Held.{held, limits_with};
 
     ghost content = { λ m. Some (held m.store) };
 
     ghost faults = { λ m. m.faults };
 
     ghost calls = { λ m. m.calls };
+
+    ghost limits = { λ m. Some (limits_with m.failing.items m.store) };
 
     fn read_at(
         &mut self,

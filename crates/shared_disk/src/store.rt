@@ -1,5 +1,5 @@
 // The folders, files and sectors of a memory disk, in room that is taken at once.
-ghost use Rattle.std.specs.Prelude.{◌≡◌, ◌≢◌, ℕ, ◌+◌, ◌-◌, ◌*◌, ◌/◌, ◌<◌, ◌≤◌, ◌↔◌, ◌++◌, ◌∷◌, ◌==◌, true, false, [], if◌then◌else◌, Some, None, Ok, Err, IsTrue, Bool, IfOk, IfErr, OnErr, length, drop, unwrap_or, vec_len, vec_capacity};
+ghost use Rattle.std.specs.Prelude.{◌≡◌, ◌≢◌, ℕ, ◌+◌, ◌-◌, ◌*◌, ◌/◌, ◌<◌, ◌≤◌, ◌↔◌, ◌++◌, ◌∷◌, ◌==◌, true, false, [], if◌then◌else◌, Some, None, Ok, Err, IsTrue, Bool, IfOk, IfErr, OnOk, OnErr, length, drop, unwrap_or, vec_len, vec_capacity};
 ghost use Rattle.std.proofs.Props.{props};
 ghost use Rattle.sd_names.specs.declared.place.Dir.TheVariants.{Root};
 ghost use Rattle.shared_disk.specs.Content.{writes, own_of, sector_of, zero_sector};
@@ -131,6 +131,8 @@ impl Store {
         requires { dir ≢ Root }
         ensures call { MakesDir (held self.old) dir result (held self.new) }
         ensures failed { result ≡ Err DiskAnswer.Failed → self.old.room < units self.old + 1 }
+        ensures units { OnOk result (units self.new ≡ units self.old + 1) }
+        ensures kept { OnErr result (self.new ≡ self.old) }
         ensures room { self.new.room ≡ self.old.room }
     {
         if !is_dir(&self.dirs, parent(dir)) {
@@ -165,6 +167,8 @@ impl Store {
         requires { IsAligned length }
         ensures call { Creates (held self.old) host place (length / 512) result (held self.new) }
         ensures failed { result ≡ Err DiskAnswer.Failed → self.old.room < units self.old + 1 }
+        ensures units { OnOk result (units self.new ≡ units self.old + 1) }
+        ensures kept { OnErr result (self.new ≡ self.old) }
         ensures room { self.new.room ≡ self.old.room }
     {
         if !is_dir(&self.dirs, place.dir) {
@@ -258,7 +262,8 @@ impl Store {
         requires piece { IsPiece (length bytes.now) }
         ensures call { WriteAt (held self.old) host place (at / 512) bytes.now result (held self.new) }
         ensures failed { result ≡ Err DiskAnswer.Failed → self.old.room < units self.old + length bytes.now / 512 }
-        ensures unchanged { OnErr result (held self.new ≡ held self.old) }
+        ensures units { OnOk result (units self.new ≡ units self.old + length bytes.now / 512) }
+        ensures kept { OnErr result (self.new ≡ self.old) }
         ensures room { self.new.room ≡ self.old.room }
     {
         let (number, file) = match self.files.find(place) {
@@ -285,6 +290,7 @@ impl Store {
         ensures files { self.new.files ≡ self.old.files }
         ensures stable { (n k : ℕ) → sector_at self.new.stable 0 n k ≡ (if number == n then or_else (own_of host k (loose_of number self.old.log.items)) (sector_at self.old.stable 0 n k) else sector_at self.old.stable 0 n k) }
         ensures log { self.new.log.items ≡ others_of host number self.old.log.items }
+        ensures units { units self.new ≤ units self.old }
         ensures room { self.new.room ≡ self.old.room }
     {
         settle(&self.log, &mut self.stable, host, number);
@@ -296,6 +302,8 @@ impl Store {
     pub(crate) fn sync(&mut self, host: HostId, place: Place) -> Result<(), DiskAnswer>
         ensures call { Syncs (held self.old) host place result (held self.new) }
         ensures failed { result ≢ Err DiskAnswer.Failed }
+        ensures units { OnOk result (units self.new ≤ units self.old) }
+        ensures kept { OnErr result (self.new ≡ self.old) }
         ensures room { self.new.room ≡ self.old.room }
     {
         let (number, file) = match self.files.find(place) {

@@ -77,6 +77,8 @@ impl<R: Files<File = File>> SharedDisk for FolderDisk<R> {
 
     ghost calls = { disk_calls };
 
+    ghost limits = { λ disk. None };
+
     fn read_at(
         &mut self,
         _host: HostId,

@@ -1,9 +1,9 @@
 // Calls of a store that work on names and folders.
-ghost use Rattle.std.specs.Prelude.{◌≡◌, ◌≢◌, ◌≤◌, ℕ, Some, None, Err, IsSome, IfOk};
+ghost use Rattle.std.specs.Prelude.{◌≡◌, ◌≢◌, ◌<◌, ◌≤◌, ℕ, Some, None, Err, IsSome, IfOk, OnOk, OnErr};
 ghost use Rattle.sd_names.specs.declared.place.Dir.TheVariants.{Root};
 ghost use Rattle.shared_disk.specs.NameCalls.{AnswersDirAbove, AnswersNameAbove, AreImageDirs, MovesDir, NextDir, NextName, Removes, RemovesDir, Renames};
 ghost use Rattle.shared_disk.specs.Sectors.{sector_at};
-ghost use Rattle.shared_disk.specs.Store.{IsCleared, IsSlotPut, loose_of, slot};
+ghost use Rattle.shared_disk.specs.Store.{IsCleared, IsSlotPut, found, loose_of, slot};
 
 use super::{Store, is_dir};
 use crate::DiskAnswer;
@@ -23,7 +23,7 @@ impl Store {
         ensures slots { IsSlotPut number None self.old.files.slots.items self.new.files.slots.items }
         ensures stable { (n k : ℕ) → n ≢ number → sector_at self.new.stable 0 n k ≡ sector_at self.old.stable 0 n k }
         ensures loose { (n : ℕ) → n ≢ number → loose_of n self.new.log.items ≡ loose_of n self.old.log.items }
-        ensures units { units self.new ≤ units self.old }
+        ensures units { units self.new < units self.old }
         ensures room { self.new.room ≡ self.old.room }
     {
         self.files.take(number);
@@ -40,6 +40,7 @@ impl Store {
         ensures dirs { self.new.dirs ≡ self.old.dirs }
         ensures cleared { IsCleared place self.old.files.slots.items self.old.stable self.old.log.items self.new.files.slots.items self.new.stable self.new.log.items }
         ensures units { units self.new ≤ units self.old }
+        ensures fewer { IsSome (found place 0 self.old.files.slots.items) → units self.new < units self.old }
         ensures room { self.new.room ≡ self.old.room }
     {
         if let Some((number, _)) = self.files.find(place) {
@@ -51,6 +52,8 @@ impl Store {
         requires { from.name ≢ to }
         ensures call { Renames (held self.old) from to result (held self.new) }
         ensures failed { result ≢ Err DiskAnswer.Failed }
+        ensures units { OnOk result (units self.new ≤ units self.old) }
+        ensures kept { OnErr result (self.new ≡ self.old) }
         ensures room { self.new.room ≡ self.old.room }
     {
         let (number, file) = match self.files.find(from) {
@@ -76,6 +79,8 @@ impl Store {
     pub(crate) fn remove(&mut self, place: Place) -> Result<(), DiskAnswer>
         ensures call { Removes (held self.old) place result (held self.new) }
         ensures failed { result ≢ Err DiskAnswer.Failed }
+        ensures units { OnOk result (units self.new < units self.old) }
+        ensures kept { OnErr result (self.new ≡ self.old) }
         ensures room { self.new.room ≡ self.old.room }
     {
         match self.files.find(place) {
@@ -91,6 +96,8 @@ impl Store {
         requires { dir ≢ Root }
         ensures call { RemovesDir (held self.old) dir result (held self.new) }
         ensures failed { result ≢ Err DiskAnswer.Failed }
+        ensures units { OnOk result (units self.new < units self.old) }
+        ensures kept { OnErr result (self.new ≡ self.old) }
         ensures room { self.new.room ≡ self.old.room }
     {
         if !is_dir(&self.dirs, dir) {
@@ -111,6 +118,8 @@ impl Store {
         requires other { from ≢ to }
         ensures call { MovesDir (held self.old) from to result (held self.new) }
         ensures failed { result ≢ Err DiskAnswer.Failed }
+        ensures units { OnOk result (units self.new ≡ units self.old) }
+        ensures kept { OnErr result (self.new ≡ self.old) }
         ensures room { self.new.room ≡ self.old.room }
     {
         if !is_dir(&self.dirs, from) {

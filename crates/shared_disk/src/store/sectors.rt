@@ -1,5 +1,5 @@
 // Calls of a store that change a file on the medium at once.
-ghost use Rattle.std.specs.Prelude.{◌≡◌, ◌≢◌, ◌↔◌, ℕ, ◌+◌, ◌/◌, ◌^◌, ◌<◌, ◌≤◌, ◌==◌, ◌&&◌, max, Some, Err, IsTrue, IsFalse, IfOk, OnErr, length, is_some, if◌then◌else◌};
+ghost use Rattle.std.specs.Prelude.{◌≡◌, ◌≢◌, ◌↔◌, ℕ, ◌+◌, ◌/◌, ◌^◌, ◌<◌, ◌≤◌, ◌==◌, ◌&&◌, max, Some, Err, IsTrue, IsFalse, IfOk, OnOk, OnErr, length, is_some, if◌then◌else◌};
 ghost use Rattle.shared_disk.specs.Calls.{IsAligned};
 ghost use Rattle.shared_disk.specs.SectorCalls.{Exchanges, Grows};
 ghost use Rattle.shared_disk.specs.Sectors.{sector_at, kept_count};
@@ -41,6 +41,8 @@ impl Store {
         requires { IsAligned length }
         ensures call { Grows (held self.old) place (length / 512) result (held self.new) }
         ensures failed { result ≢ Err DiskAnswer.Failed }
+        ensures units { OnOk result (units self.new ≡ units self.old) }
+        ensures kept { OnErr result (self.new ≡ self.old) }
         ensures room { self.new.room ≡ self.old.room }
     {
         match self.files.find(place) {
@@ -70,6 +72,7 @@ impl Store {
         ensures files { self.new.files ≡ self.old.files }
         ensures stable { (n j : ℕ) → sector_at self.new.stable 0 n j ≡ (if number == n && k == j then Some bytes.now else sector_at self.old.stable 0 n j) }
         ensures log { self.new.log.items ≡ apart_of number k self.old.log.items }
+        ensures units { units self.new ≤ units self.old + 1 }
         ensures room { self.new.room ≡ self.old.room }
     {
         forget_sector(&mut self.log, number, k);
@@ -89,7 +92,8 @@ impl Store {
         ensures call { Exchanges (held self.old) host place sector expect.now next.now result (held self.new) }
         ensures differs { IfOk result (λ answer. answer ≢ Found expect.now) }
         ensures failed { result ≡ Err DiskAnswer.Failed → self.old.room < units self.old + 1 }
-        ensures unchanged { OnErr result (held self.new ≡ held self.old) }
+        ensures units { OnOk result (units self.new ≤ units self.old + 1) }
+        ensures kept { OnErr result (self.new ≡ self.old) }
         ensures room { self.new.room ≡ self.old.room }
     {
         let (number, file) = match self.files.find(place) {

@@ -1,4 +1,4 @@
-use Rattle.std.proofs.Common.{refl}
+use Rattle.std.proofs.Common.{Some, [], refl}
 use Rattle.shared_disk.specs.Held.{held}
 use Rattle.shared_disk.proofs.Contents.{is_empty}
 use Rattle.shared_disk.proofs.honest.Honest.new.Goals as goal
@@ -8,4 +8,5 @@ returns-in-Ok c = record {
   empty = (held c.in-Ok.store, refl, is_empty _ _ c.in-Ok.store.stable c.in-Ok.store.log.items c.in-Ok.ensures.dirs c.in-Ok.ensures.files);
   room = c.in-Ok.ensures.room;
   used = c.in-Ok.ensures.units;
+  limits = λ i. Some (record { units = c.in-Ok.ensures.units i; room = c.in-Ok.ensures.room i; failing = [] });
 }

@@ -1,8 +1,9 @@
-use Rattle.std.proofs.Common.{◌≡◌, not, length, ◌∙◌, ap, arith}
+use Rattle.std.proofs.Common.{◌≡◌, not, length, is_some, ◌∙◌, ap, arith}
 use Rattle.shared_disk.specs.Content.{own_of}
+use Rattle.shared_disk.specs.Sectors.{sector_at}
 use Rattle.shared_disk.specs.Store.{is_at, loose_of}
-use Rattle.shared_disk.proofs.PutSectors.{put_within}
-use Rattle.shared_disk.proofs.Within.{log_part}
+use Rattle.shared_disk.proofs.PutSectors.{one_at_most, put_within}
+use Rattle.shared_disk.proofs.Within.{filter_no_more, log_part}
 use Rattle.shared_disk.proofs.store.Store.put_stable.Goals as goal
 
 pub returns-clause-stable : goal.returns-clause-stable
@@ -23,3 +24,9 @@ pub invariant_of-self-clause-used : goal.invariant_of-self-clause-used
 invariant_of-self-clause-used c =
     let fewer : length c.forget_sector.new.log.items ≡ _ = ap length c.forget_sector.ensures.items in
     omega (arith, fewer, c.put.ensures.count, c.requires.room)
+
+pub returns-clause-units : goal.returns-clause-units
+returns-clause-units c =
+    let fewer = filter_no_more (λ w. not (is_at c.args.number c.args.k w)) c.args.self.now.log.items c.forget_sector.new.log.items c.forget_sector.ensures.items in
+    let more = one_at_most (is_some (sector_at c.args.self.now.stable 0 c.args.number c.args.k)) in
+    omega (arith, fewer, more, c.put.ensures.count)

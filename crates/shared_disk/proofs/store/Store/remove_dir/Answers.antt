@@ -1,10 +1,11 @@
-use Rattle.std.proofs.Common.{List, Option, None, not, sym, subst, ◌∙◌, refl, arith}
+use Rattle.std.proofs.Common.{◌≡◌, true, List, length, Option, None, not, ap, sym, subst, ◌∙◌, refl, arith}
 use Rattle.sd_names.specs.declared.place.Dir.{Dir}
 use Rattle.shared_disk.specs.Held.{held}
 use Rattle.shared_disk.specs.Listing.{IsLeastDir, IsLeastName}
 use Rattle.shared_disk.specs.Places.{dir_is}
+use Rattle.shared_disk.specs.Store.{has_dir}
 use Rattle.shared_disk.specs.declared.entry.FileEntry.{FileEntry}
-use Rattle.shared_disk.proofs.Folders.{entry_dir, entry_name, housed_kept, is_dir_removed, no_entry, no_file_in}
+use Rattle.shared_disk.proofs.Folders.{entry_dir, entry_name, fewer_dirs, housed_kept, is_dir_removed, no_entry, no_file_in}
 use Rattle.shared_disk.proofs.Listed.{is_next_dir, is_next_name}
 use Rattle.shared_disk.proofs.Within.{filter_no_more}
 use Rattle.shared_disk.proofs.store.Store.remove_dir.Goals as goal
@@ -43,3 +44,10 @@ returns-clause-call c =
       empty = no_entry (held c.args.self.now) c.args.dir c.least_name.result c.least_dir.result next next_sub (sym c.is_some.ensures ∙ c.if-is_some.false) (sym c.is_some-2.ensures ∙ c.if-is_some-2.false);
       put = is_dir_removed c.args.self.now.dirs.items c.forget_dir.new.dirs.items c.args.self.now.files.slots.items c.args.self.now.stable c.args.self.now.log.items c.args.dir c.requires c.forget_dir.ensures.items;
     }
+
+pub returns-clause-units : goal.returns-clause-units
+returns-clause-units c =
+    let there : has_dir c.args.self.now.dirs.items c.args.dir ≡ true = cc in
+    let fewer = fewer_dirs c.args.dir c.args.self.now.dirs.items c.requires there in
+    let left = ap length c.forget_dir.ensures.items in
+    omega (arith, fewer, left, c.args.self.now.dirs.ok, c.forget_dir.new.dirs.ok)
