@@ -11,6 +11,8 @@ mod folder_tests;
 mod layout;
 mod listing;
 mod names;
+#[cfg(test)]
+mod rows;
 mod std_stream;
 #[cfg(test)]
 mod tests;
