@@ -17,6 +17,7 @@ mod std_stream;
 #[cfg(test)]
 mod tests;
 mod words;
+mod written;
 
 use folder_disk::FolderDisk;
 use pool_session::vdsm;
