@@ -27,6 +27,13 @@ source_pieces s = s.pieces.items
 abbrev pub source_failing : MemorySource → List ℕ
 source_failing s = s.failing.items
 
+-- how many reads and how many writes were made
+abbrev pub source_calls : MemorySource → ℕ
+source_calls s = s.calls
+
+abbrev pub sink_calls : MemorySink → ℕ
+sink_calls s = s.calls
+
 -- the most bytes that are given, and the numbers of the writes that fail
 abbrev pub sink_room : MemorySink → ℕ
 sink_room s = s.room

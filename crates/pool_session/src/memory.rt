@@ -1,5 +1,6 @@
 // Streams in memory, that fail where they are told to.
-ghost use Rattle.std.specs.Prelude.{◌≡◌, ◌<◌, ◌≤◌, [], length, take, IfOk, vec_len, vec_capacity};
+ghost use Rattle.std.specs.Prelude.{◌≡◌, ◌⊎◌, ◌↔◌, ℕ, ◌+◌, ◌-◌, ◌^◌, ◌<◌, ◌≤◌, min, max, List, [], length, take, Some, slice_get, Contains, IsErr, IfOk, vec_len, vec_capacity};
+ghost use Rattle.pool_session.specs.Stream.{Counts, Reads, Writes};
 
 use crate::{Sink, Source};
 use sd_names::{Failed, NoMemory, push_all};
@@ -18,7 +19,7 @@ pub struct MemorySource {
 }
 
 impl MemorySource {
-    ghost use Rattle.pool_session.specs.Memory.{source_left, source_faults, source_pieces, source_failing};
+    ghost use Rattle.pool_session.specs.Memory.{source_left, source_faults, source_pieces, source_failing, source_calls};
 
     /// A source of these bytes. The n-th read gives at most as many bytes as `pieces` says, where 0 counts as 1; past its
     /// end a read gives as many as fit. The reads whose numbers, from 0, stand in `failing` fail.
@@ -26,6 +27,7 @@ impl MemorySource {
         ensures left { source_left result ≡ bytes.items }
         ensures pieces { source_pieces result ≡ pieces.items }
         ensures failing { source_failing result ≡ failing.items }
+        ensures calls { source_calls result ≡ 0 }
         ensures faults { source_faults result ≡ 0 }
     {
         MemorySource {
@@ -40,7 +42,8 @@ impl MemorySource {
 
     // How many bytes the next read gives at most.
     fn most(&self) -> usize
-        ensures { 0 < result }
+        ensures some { 0 < result }
+        ensures pieces { (most : ℕ) → slice_get (source_pieces self.now) (source_calls self.now) ≡ Some most → result ≡ max most 1 }
     {
         match self.pieces.get(self.calls_made()) {
             Some(most) => (*most).max(1),
@@ -48,20 +51,31 @@ impl MemorySource {
         }
     }
 
-    fn calls_made(&self) -> usize {
+    fn calls_made(&self) -> usize
+        ensures { result ≡ source_calls self.now }
+    {
         self.calls as usize
     }
 }
 
 impl Source for MemorySource {
     ghost use Rattle.std.specs.Prelude.{Some};
-    ghost use Rattle.pool_session.specs.Memory.{source_left, source_faults};
+    ghost use Rattle.pool_session.specs.Memory.{source_left, source_faults, source_pieces, source_failing, source_calls};
 
     ghost left = { λ s. Some (source_left s) };
 
     ghost faults = { source_faults };
 
-    fn read(&mut self, into: &mut [u8]) -> Result<usize, Failed> {
+    fn read(&mut self, into: &mut [u8]) -> Result<usize, Failed>
+        ensures bound { IfOk result (λ count. count ≤ length into.old) }
+        ensures counts { Counts (source_faults self.old) (source_faults self.new) result }
+        ensures moved { (before : List ℕ) → Some (source_left self.old) ≡ Some before
+            → (after : List ℕ) × (Some (source_left self.new) ≡ Some after) × Reads before after into.new (length into.old) result }
+        ensures fails { IsErr result ↔ Contains (source_failing self.old) (source_calls self.old) }
+        ensures pieces { (most : ℕ) → slice_get (source_pieces self.old) (source_calls self.old) ≡ Some most → IfOk result (λ count. count ≤ max most 1) }
+        ensures calls { source_calls self.new ≡ min (source_calls self.old + 1) (2 ^ 64 - 1) }
+        ensures kept { (source_pieces self.new ≡ source_pieces self.old) × (source_failing self.new ≡ source_failing self.old) }
+    {
         let faults = self.faults;
         let most = self.most();
         let fails = self.failing.contains(&self.calls);
@@ -81,6 +95,7 @@ pub fn copy_front(bytes: &[u8], into: &mut [u8], most: usize) -> usize
     requires { 0 < most }
     ensures count { result ≤ length bytes.now }
     ensures bound { result ≤ length into.old }
+    ensures most { result ≤ most }
     ensures front { take result into.new ≡ take result bytes.now }
     ensures end { result ≡ 0 → 0 < length into.old → bytes.now ≡ [] }
 {
@@ -102,13 +117,14 @@ pub struct MemorySink {
 }
 
 impl MemorySink {
-    ghost use Rattle.pool_session.specs.Memory.{sink_given, sink_faults, sink_room, sink_failing};
+    ghost use Rattle.pool_session.specs.Memory.{sink_given, sink_faults, sink_room, sink_failing, sink_calls};
 
     /// A sink with room for so many bytes. The writes whose numbers, from 0, stand in `failing` fail.
     pub fn new(alloc: Global, room: usize, failing: Vec<u64>) -> Result<MemorySink, NoMemory>
         ensures given { IfOk result (λ sink. sink_given sink ≡ []) }
         ensures room { IfOk result (λ sink. sink_room sink ≡ room) }
         ensures failing { IfOk result (λ sink. sink_failing sink ≡ failing.items) }
+        ensures calls { IfOk result (λ sink. sink_calls sink ≡ 0) }
         ensures faults { IfOk result (λ sink. sink_faults sink ≡ 0) }
     {
         match Vec::with_capacity(alloc, room) {
@@ -133,21 +149,35 @@ impl MemorySink {
 
 impl Sink for MemorySink {
     ghost use Rattle.std.specs.Prelude.{Some};
-    ghost use Rattle.pool_session.specs.Memory.{sink_given, sink_faults};
+    ghost use Rattle.pool_session.specs.Memory.{sink_given, sink_faults, sink_room, sink_failing, sink_calls};
 
     ghost given = { λ s. Some (sink_given s) };
 
     ghost faults = { sink_faults };
 
-    fn write(&mut self, piece: &[u8]) -> Result<usize, Failed> {
+    fn write(&mut self, piece: &[u8]) -> Result<usize, Failed>
+        ensures bound { IfOk result (λ count. count ≤ length piece.now) }
+        ensures some { 0 < length piece.now → IfOk result (λ count. 0 < count) }
+        ensures counts { Counts (sink_faults self.old) (sink_faults self.new) result }
+        ensures taken { (before : List ℕ) → Some (sink_given self.old) ≡ Some before
+            → (after : List ℕ) × (Some (sink_given self.new) ≡ Some after) × Writes before after piece.now result }
+        ensures fails { IsErr result ↔ (Contains (sink_failing self.old) (sink_calls self.old)
+            ⊎ ((0 < length piece.now) × (length (sink_given self.old) ≡ sink_room self.old))) }
+        ensures calls { sink_calls self.new ≡ min (sink_calls self.old + 1) (2 ^ 64 - 1) }
+        ensures kept { (sink_room self.new ≡ sink_room self.old) × (sink_failing self.new ≡ sink_failing self.old) }
+    {
         let faults = self.faults;
         let fails = self.failing.contains(&self.calls);
         self.calls = self.calls.saturating_add(1);
-        let count = piece.len().min(self.room - self.bytes.len());
-        if fails || (count == 0 && !piece.is_empty()) {
+        if fails {
             self.faults = faults.saturating_add(1);
             return Err(Failed);
         }
+        if self.bytes.len() == self.room && !piece.is_empty() {
+            self.faults = faults.saturating_add(1);
+            return Err(Failed);
+        }
+        let count = piece.len().min(self.room - self.bytes.len());
         push_all(&mut self.bytes, &piece[..count]);
         Ok(count)
     }

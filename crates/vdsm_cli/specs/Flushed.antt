@@ -1,7 +1,13 @@
--- Which folder was flushed.
+-- Which folder and which file were flushed.
 use Rattle.sd_names.specs.declared.place.Dir.{Dir}
+use Rattle.sd_names.specs.declared.place.Place.{Place}
 use Rattle.vdsm_cli.specs.declared.flushed.FlushedDir.{FlushedDir}
+use Rattle.vdsm_cli.specs.declared.flushed.FlushedFile.{FlushedFile}
 
 -- the folder whose names are on the medium
 abbrev pub flushed_dir : FlushedDir → Dir
 flushed_dir flushed = flushed.dir
+
+-- the file whose bytes and length are on the medium
+abbrev pub flushed_place : FlushedFile → Place
+flushed_place flushed = flushed.place

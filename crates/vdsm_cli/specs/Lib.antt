@@ -5,3 +5,6 @@ pub mod Layout
 pub mod Listing
 pub mod Flushed
 pub mod Counts
+pub mod Streams
+pub mod Opened
+pub mod Swapped

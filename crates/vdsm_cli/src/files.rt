@@ -3,11 +3,16 @@ ghost use Rattle.std.specs.Prelude.{true, false, ◌≡◌, ◌≢◌, ◌+◌, 
 ghost use Rattle.std.specs.IoError.{error_kind};
 ghost use Rattle.vdsm_cli.specs.Answers.{IsNoFile, IsNoFileOrExists, IsNoFileOrOutside};
 ghost use Rattle.vdsm_cli.specs.Length.{padded};
+ghost use Rattle.vdsm_cli.specs.Flushed.{flushed_place};
+ghost use Rattle.vdsm_cli.specs.Opened.{written_at, written_length};
+ghost use Rattle.vdsm_cli.specs.Swapped.{IsSwapped};
 
-use crate::flushed::flush;
-use shared_disk::{DiskAnswer, Exchanged};
+use crate::flushed::{FlushedFile, flush_file};
+use crate::written::{Written, get, put};
+use sd_names::Place;
+use shared_disk::DiskAnswer;
 use std::fs::{File, Files, OpenFile, OpenOptions};
-use std::io::{Error, ErrorKind, Read, Seek, SeekFrom, Write};
+use std::io::{Error, ErrorKind};
 
 /// Bytes in a sector: a file's length is shown as a multiple of it.
 const SECTOR: u64 = 512;
@@ -66,19 +71,6 @@ fn stored_length<F: OpenFile>(file: &F) -> Result<u64, DiskAnswer>
     }
 }
 
-// Reads bytes that a file has. For none it asks nothing of the file.
-fn read_stored<F: Read + Seek>(file: &mut F, at: u64, into: &mut [u8]) -> Result<(), DiskAnswer>
-    ensures fault { IfErr result (λ answer. answer ≡ DiskAnswer.Failed) }
-{
-    if into.is_empty() {
-        return Ok(());
-    }
-    if file.seek(SeekFrom::Start(at)).is_err() || file.read_exact(into).is_err() {
-        return Err(DiskAnswer::Failed);
-    }
-    Ok(())
-}
-
 /// Reads from `at` on to the end that is shown of the file or of `into`. Past what the file has there are zeros.
 pub(crate) fn read<R: Files>(
     rt: &R,
@@ -93,13 +85,20 @@ pub(crate) fn read<R: Files>(
     let stored = stored_length(&file)?;
     let count = count_before(shown_length(stored)?, at, into.len());
     let kept = count_before(stored, at, count);
-    read_stored(&mut file, at, &mut into[..kept])?;
+    get(&mut file, at, &mut into[..kept])?;
     into[kept..count].fill(0);
     Ok(count)
 }
 
 /// Writes from `at` on, inside the length that is shown of the file.
-pub(crate) fn write<R: Files>(rt: &R, path: &str, at: u64, bytes: &[u8]) -> Result<(), DiskAnswer>
+pub(crate) fn write<R: Files>(
+    rt: &R,
+    path: &str,
+    at: u64,
+    bytes: &[u8],
+) -> Result<Written, DiskAnswer>
+    ensures at { IfOk result (λ written. written_at written ≡ at) }
+    ensures length { IfOk result (λ written. written_length written ≡ length bytes.now) }
     ensures answers { IfErr result IsNoFileOrOutside }
 {
     let mut file = OpenOptions::new()
@@ -113,30 +112,27 @@ pub(crate) fn write<R: Files>(rt: &R, path: &str, at: u64, bytes: &[u8]) -> Resu
     put(&mut file, at, bytes)
 }
 
-// Writes bytes at an offset of an open file.
-fn put<F: Write + Seek>(file: &mut F, at: u64, bytes: &[u8]) -> Result<(), DiskAnswer>
-    ensures { IfErr result (λ answer. answer ≡ DiskAnswer.Failed) }
-{
-    if file.seek(SeekFrom::Start(at)).is_err() || file.write_all(bytes).is_err() {
-        return Err(DiskAnswer::Failed);
-    }
-    Ok(())
-}
-
-/// Flushes a file to the medium.
-pub(crate) fn sync<R: Files>(rt: &R, path: &str) -> Result<(), DiskAnswer>
+/// Flushes the file of a place to the medium.
+pub(crate) fn sync<R: Files>(rt: &R, path: &str, place: &Place) -> Result<FlushedFile, DiskAnswer>
+    ensures flushed { IfOk result (λ flushed. flushed_place flushed ≡ place.now) }
     ensures answers { IfErr result IsNoFile }
 {
     let file = OpenOptions::new()
         .write(true)
         .open(rt, path)
         .map_err(answer_for)?;
-    flush(&file)
+    flush_file(&file, place)
 }
 
-/// Makes a sparse file of zeros, and flushes its length. Where that fails the file is taken away again, so that none
-/// of another length stays.
-pub(crate) fn create<R: Files>(rt: &R, path: &str, length: u64) -> Result<(), DiskAnswer>
+/// Makes a sparse file of zeros at a place, and flushes its length. Where that fails the file is taken away again, so
+/// that none of another length stays.
+pub(crate) fn create<R: Files>(
+    rt: &R,
+    path: &str,
+    place: &Place,
+    length: u64,
+) -> Result<FlushedFile, DiskAnswer>
+    ensures flushed { IfOk result (λ flushed. flushed_place flushed ≡ place.now) }
     ensures answers { IfErr result IsNoFileOrExists }
 {
     let file = OpenOptions::new()
@@ -144,11 +140,13 @@ pub(crate) fn create<R: Files>(rt: &R, path: &str, length: u64) -> Result<(), Di
         .create_new(true)
         .open(rt, path)
         .map_err(|error| answer_for_new(error, is_file(rt, path)))?;
-    if file.set_len(length).is_err() || file.sync_all().is_err() {
-        let _ = rt.remove_file(path);
-        return Err(DiskAnswer::Failed);
+    if file.set_len(length).is_ok() {
+        if let Ok(flushed) = flush_file(&file, place) {
+            return Ok(flushed);
+        }
     }
-    Ok(())
+    let _ = rt.remove_file(path);
+    Err(DiskAnswer::Failed)
 }
 
 // Whether a file stands at the path.
@@ -170,8 +168,14 @@ pub(crate) fn length<R: Files>(rt: &R, path: &str) -> Result<u64, DiskAnswer>
     shown_length(metadata.len())
 }
 
-/// Raises a file's length with zeros where it has fewer bytes, and flushes it.
-pub(crate) fn grow<R: Files>(rt: &R, path: &str, length: u64) -> Result<(), DiskAnswer>
+/// Raises the length of a place's file with zeros where it has fewer bytes, and flushes it.
+pub(crate) fn grow<R: Files>(
+    rt: &R,
+    path: &str,
+    place: &Place,
+    length: u64,
+) -> Result<FlushedFile, DiskAnswer>
+    ensures flushed { IfOk result (λ flushed. flushed_place flushed ≡ place.now) }
     ensures answers { IfErr result IsNoFile }
 {
     let file = OpenOptions::new()
@@ -182,7 +186,7 @@ pub(crate) fn grow<R: Files>(rt: &R, path: &str, length: u64) -> Result<(), Disk
         return Err(DiskAnswer::Failed);
     }
     // A call that failed may have raised the length and not flushed it.
-    flush(&file)
+    flush_file(&file, place)
 }
 
 // The offset of a sector that lies inside a length.
@@ -197,16 +201,26 @@ fn offset_inside(shown: u64, sector: u64) -> Option<u64>
     }
 }
 
-/// Puts `next` into a sector where it holds `expect`, and flushes the file; else answers what it holds. The file is
-/// locked meanwhile, and a lock that isn't to be had at once is a fault.
+/// What an exchange of a sector came to.
+#[derive(Clone, Copy)]
+pub(crate) enum Swapped {
+    /// The next bytes were written, and the file was flushed.
+    Done(Written, FlushedFile),
+    /// The sector holds these bytes.
+    Found([u8; 512]),
+}
+
+/// Puts `next` into a sector of a place's file where it holds `expect`, and flushes the file; else answers what it
+/// holds. The file is locked meanwhile, and a lock that isn't to be had at once is a fault.
 pub(crate) fn exchange<R: Files<File = File>>(
     rt: &R,
     path: &str,
+    place: &Place,
     sector: u64,
     expect: &[u8; 512],
     next: &[u8; 512],
-) -> Result<Exchanged, DiskAnswer>
-    ensures differs { IfOk result (λ answer. answer ≢ Exchanged.Found expect.now) }
+) -> Result<Swapped, DiskAnswer>
+    ensures swapped { IfOk result (IsSwapped place.now sector expect.now) }
     ensures answers { IfErr result IsNoFileOrOutside }
 {
     let mut file = OpenOptions::new()
@@ -225,11 +239,11 @@ pub(crate) fn exchange<R: Files<File = File>>(
     };
     let mut found = [0; 512];
     let kept = count_before(stored, at, 512);
-    read_stored(&mut file, at, &mut found[..kept])?;
+    get(&mut file, at, &mut found[..kept])?;
     if found != *expect {
-        return Ok(Exchanged::Found(found));
+        return Ok(Swapped::Found(found));
     }
-    put(&mut file, at, next)?;
-    flush(&file)?;
-    Ok(Exchanged::Done)
+    let written = put(&mut file, at, next)?;
+    let flushed = flush_file(&file, place)?;
+    Ok(Swapped::Done(written, flushed))
 }

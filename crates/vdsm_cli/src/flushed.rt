@@ -1,8 +1,8 @@
 // Flushes to the medium.
 ghost use Rattle.std.specs.Prelude.{◌≡◌, IfErr, IfOk};
-ghost use Rattle.vdsm_cli.specs.Flushed.{flushed_dir};
+ghost use Rattle.vdsm_cli.specs.Flushed.{flushed_dir, flushed_place};
 
-use sd_names::Dir;
+use sd_names::{Dir, Place};
 use shared_disk::DiskAnswer;
 use std::fs::{File, Files, OpenFile};
 
@@ -13,13 +13,30 @@ pub(crate) struct FlushedDir {
     dir: Dir,
 }
 
-/// Flushes an open file or folder.
-pub(crate) fn flush<F: OpenFile>(file: &F) -> Result<(), DiskAnswer>
+/// Says that a file was flushed to the medium. Nothing but a flush makes one.
+#[derive(Clone, Copy)]
+pub(crate) struct FlushedFile {
+    place: Place,
+}
+
+// Flushes an open file or folder.
+fn flush<F: OpenFile>(file: &F) -> Result<(), DiskAnswer>
     ensures { IfErr result (λ answer. answer ≡ DiskAnswer.Failed) }
 {
     match file.sync_all() {
         Ok(()) => Ok(()),
         Err(_) => Err(DiskAnswer::Failed),
+    }
+}
+
+/// Flushes what was changed of the open file of a place.
+pub(crate) fn flush_file<F: OpenFile>(file: &F, place: &Place) -> Result<FlushedFile, DiskAnswer>
+    ensures place { IfOk result (λ flushed. flushed_place flushed ≡ place.now) }
+    ensures fault { IfErr result (λ answer. answer ≡ DiskAnswer.Failed) }
+{
+    match flush(file) {
+        Ok(()) => Ok(FlushedFile { place: *place }),
+        Err(answer) => Err(answer),
     }
 }
 

@@ -2,13 +2,16 @@
 ghost use Rattle.std.specs.Prelude.{◌≡◌, ◌≢◌, ◌≤◌, ◌++◌, length, string_bytes, IfOk, IfErr, OnOk};
 ghost use Rattle.shared_disk.specs.Calls.{parent_of};
 ghost use Rattle.vdsm_cli.specs.Answers.{IsNoFile, IsNoFileOrExists, IsNoFileOrOutside, IsNoFileOrNotEmpty};
-ghost use Rattle.vdsm_cli.specs.Flushed.{flushed_dir};
+ghost use Rattle.vdsm_cli.specs.Flushed.{flushed_dir, flushed_place};
 ghost use Rattle.vdsm_cli.specs.Path.{path_below};
 ghost use Rattle.vdsm_cli.specs.Listing.{AnswersAbove};
+ghost use Rattle.vdsm_cli.specs.Opened.{written_at, written_length};
 
-use crate::flushed::{FlushedDir, flush_dir};
+use crate::files::Swapped;
+use crate::flushed::{FlushedDir, FlushedFile, flush_dir};
 use crate::layout::{is_below, read_dir, read_name};
 use crate::listing::{Entry, PIECE, least_above};
+use crate::written::Written;
 use crate::{files, names};
 use sd_names::{Dir, Name, NoMemory, PathText, Place};
 use shared_disk::{DiskAnswer, Exchanged};
@@ -133,7 +136,14 @@ impl<R: Files> Folder<R> {
     }
 
     /// Writes inside the file.
-    pub(crate) fn write(&mut self, place: &Place, at: u64, bytes: &[u8]) -> Result<(), DiskAnswer>
+    pub(crate) fn write(
+        &mut self,
+        place: &Place,
+        at: u64,
+        bytes: &[u8],
+    ) -> Result<Written, DiskAnswer>
+        ensures at { IfOk result (λ written. written_at written ≡ at) }
+        ensures length { IfOk result (λ written. written_length written ≡ length bytes.now) }
         ensures answers { IfErr result IsNoFileOrOutside }
     {
         self.go_to(&place.path())?;
@@ -141,11 +151,12 @@ impl<R: Files> Folder<R> {
     }
 
     /// Flushes the file.
-    pub(crate) fn sync(&mut self, place: &Place) -> Result<(), DiskAnswer>
+    pub(crate) fn sync(&mut self, place: &Place) -> Result<FlushedFile, DiskAnswer>
+        ensures flushed { IfOk result (λ flushed. flushed_place flushed ≡ place.now) }
         ensures answers { IfErr result IsNoFile }
     {
         self.go_to(&place.path())?;
-        files::sync(&self.rt, self.path.as_str())
+        files::sync(&self.rt, self.path.as_str(), place)
     }
 
     /// Makes the file, and flushes it and its folder.
@@ -154,7 +165,7 @@ impl<R: Files> Folder<R> {
         ensures answers { IfErr result IsNoFileOrExists }
     {
         self.go_to(&place.path())?;
-        files::create(&self.rt, self.path.as_str(), length)?;
+        files::create(&self.rt, self.path.as_str(), place, length)?;
         self.flush_dir(&place.dir)
     }
 
@@ -167,11 +178,12 @@ impl<R: Files> Folder<R> {
     }
 
     /// Raises the file's length, and flushes it.
-    pub(crate) fn grow(&mut self, place: &Place, length: u64) -> Result<(), DiskAnswer>
+    pub(crate) fn grow(&mut self, place: &Place, length: u64) -> Result<FlushedFile, DiskAnswer>
+        ensures flushed { IfOk result (λ flushed. flushed_place flushed ≡ place.now) }
         ensures answers { IfErr result IsNoFile }
     {
         self.go_to(&place.path())?;
-        files::grow(&self.rt, self.path.as_str(), length)
+        files::grow(&self.rt, self.path.as_str(), place, length)
     }
 
     /// Gives the file another name in its folder, and flushes the folder.
@@ -390,6 +402,10 @@ impl<R: Files<File = File>> Folder<R> {
         ensures answers { IfErr result IsNoFileOrOutside }
     {
         self.go_to(&place.path())?;
-        files::exchange(&self.rt, self.path.as_str(), sector, expect, next)
+        match files::exchange(&self.rt, self.path.as_str(), place, sector, expect, next) {
+            Ok(Swapped::Done(_, _)) => Ok(Exchanged::Done),
+            Ok(Swapped::Found(bytes)) => Ok(Exchanged::Found(bytes)),
+            Err(answer) => Err(answer),
+        }
     }
 }

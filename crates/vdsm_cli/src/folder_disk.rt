@@ -4,7 +4,6 @@ ghost use Rattle.shared_disk.specs.declared.disk.DiskAnswer.{DiskAnswer};
 ghost use Rattle.shared_disk.specs.Calls.{HasCause};
 ghost use Rattle.vdsm_cli.specs.Counts.{disk_faults, disk_calls};
 
-use crate::flushed::FlushedDir;
 use crate::folder::Folder;
 use sd_names::{Dir, HostId, Name, NoMemory, Place};
 use shared_disk::{DiskAnswer, Exchanged, SharedDisk};
@@ -52,8 +51,8 @@ impl<R> FolderDisk<R> {
         answer
     }
 
-    // Counts a call that changed names, and flushed their folder where it succeeded.
-    fn counted_change(&mut self, answer: Result<FlushedDir, DiskAnswer>) -> Result<(), DiskAnswer>
+    // Counts a call that tells what it has done.
+    fn counted_change<T: Copy>(&mut self, answer: Result<T, DiskAnswer>) -> Result<(), DiskAnswer>
         ensures done { IsOk result ↔ IsOk answer }
         ensures failed { (why : DiskAnswer) → answer ≡ Err why → result ≡ Err why }
         ensures calls { disk_calls self.new ≡ min (disk_calls self.old + 1) (2 ^ 64 - 1) }
@@ -98,12 +97,12 @@ impl<R: Files<File = File>> SharedDisk for FolderDisk<R> {
         bytes: &[u8],
     ) -> Result<(), DiskAnswer> {
         let answer = self.folder.write(&place, at, bytes);
-        self.counted(answer)
+        self.counted_change(answer)
     }
 
     fn sync(&mut self, _host: HostId, place: Place) -> Result<(), DiskAnswer> {
         let answer = self.folder.sync(&place);
-        self.counted(answer)
+        self.counted_change(answer)
     }
 
     fn create(&mut self, _host: HostId, place: Place, length: u64) -> Result<(), DiskAnswer> {
@@ -123,7 +122,7 @@ impl<R: Files<File = File>> SharedDisk for FolderDisk<R> {
 
     fn grow(&mut self, _host: HostId, place: Place, length: u64) -> Result<(), DiskAnswer> {
         let answer = self.folder.grow(&place, length);
-        self.counted(answer)
+        self.counted_change(answer)
     }
 
     fn rename(&mut self, _host: HostId, from: Place, to: Name) -> Result<(), DiskAnswer> {

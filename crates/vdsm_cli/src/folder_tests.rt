@@ -1,5 +1,6 @@
 // The calls on names, lengths, sectors and listings, with every answer, in a real folder.
 use crate::folder_disk::FolderDisk;
+use crate::rows::{Call, OnFile, OnFolder, first_other};
 use crate::tests::{OTHER, SD};
 use sd_names::{Dir, HostId, Id, Name, Place};
 use shared_disk::{DiskAnswer, Exchanged, SharedDisk};
@@ -49,72 +50,35 @@ fn image_folder<'a>(rt: &'a HostRuntime, root: &str) -> Result<FolderDisk<&'a Ho
 fn names_and_lengths_change_in_a_real_folder(rt: HostRuntime) -> Result<(), Fail> {
     let host = HostId::new(1).ok_or("no host")?;
     let mut disk = image_folder(&rt, "changed_folder")?;
-    let answers = [
+    let (none, shown) = (Err(DiskAnswer::NoFile), Err(DiskAnswer::NotEmpty));
+    let rows = [
+        (Call::File(VOLUME, OnFile::Grow(1)), none),
+        (Call::File(VOLUME, OnFile::Create(1)), Ok(0)),
+        (Call::File(VOLUME, OnFile::Grow(4)), Ok(0)),
+        (Call::File(VOLUME, OnFile::Grow(1)), Ok(0)),
+        (Call::File(META_NEW, OnFile::Rename(META.name)), none),
+        (Call::File(META, OnFile::Create(1)), Ok(0)),
+        (Call::File(META_NEW, OnFile::Create(2)), Ok(0)),
+        (Call::File(META_NEW, OnFile::Rename(META.name)), Ok(0)),
+        (Call::File(META_NEW, OnFile::Rename(META.name)), none),
+        (Call::File(META_NEW, OnFile::Remove), none),
+        (Call::Folder(REMOVED, OnFolder::Move(IMAGE)), none),
+        (Call::Folder(REMOVED, OnFolder::Make), Ok(0)),
         (
-            "grow none",
-            disk.grow(host, VOLUME, 512),
-            Err(DiskAnswer::NoFile),
-        ),
-        ("create", disk.create(host, VOLUME, 512), Ok(())),
-        ("grow", disk.grow(host, VOLUME, 2048), Ok(())),
-        ("grow less", disk.grow(host, VOLUME, 512), Ok(())),
-        (
-            "rename none",
-            disk.rename(host, META_NEW, META.name),
-            Err(DiskAnswer::NoFile),
-        ),
-        ("create meta", disk.create(host, META, 512), Ok(())),
-        ("create new", disk.create(host, META_NEW, 1024), Ok(())),
-        (
-            "rename over",
-            disk.rename(host, META_NEW, META.name),
-            Ok(()),
-        ),
-        (
-            "rename again",
-            disk.rename(host, META_NEW, META.name),
-            Err(DiskAnswer::NoFile),
-        ),
-        (
-            "remove none",
-            disk.remove(host, META_NEW),
-            Err(DiskAnswer::NoFile),
-        ),
-        (
-            "move none",
-            disk.move_dir(host, REMOVED, IMAGE),
-            Err(DiskAnswer::NoFile),
-        ),
-        ("make", disk.make_dir(host, REMOVED), Ok(())),
-        (
-            "move over",
-            disk.move_dir(host, IMAGE, REMOVED),
+            Call::Folder(IMAGE, OnFolder::Move(REMOVED)),
             Err(DiskAnswer::Exists),
         ),
-        (
-            "remove with a file",
-            disk.remove_dir(host, IMAGE),
-            Err(DiskAnswer::NotEmpty),
-        ),
-        (
-            "remove with a folder",
-            disk.remove_dir(host, IMAGES),
-            Err(DiskAnswer::NotEmpty),
-        ),
-        ("remove empty", disk.remove_dir(host, REMOVED), Ok(())),
-        (
-            "remove no folder",
-            disk.remove_dir(host, REMOVED),
-            Err(DiskAnswer::NoFile),
-        ),
-        ("remove", disk.remove(host, VOLUME), Ok(())),
-        ("move", disk.move_dir(host, IMAGE, REMOVED), Ok(())),
-        ("make again", disk.make_dir(host, IMAGE), Ok(())),
-        ("remove moved", disk.remove(host, MOVED), Ok(())),
+        (Call::Folder(IMAGE, OnFolder::Remove), shown),
+        (Call::Folder(IMAGES, OnFolder::Remove), shown),
+        (Call::Folder(REMOVED, OnFolder::Remove), Ok(0)),
+        (Call::Folder(REMOVED, OnFolder::Remove), none),
+        (Call::File(VOLUME, OnFile::Remove), Ok(0)),
+        (Call::Folder(IMAGE, OnFolder::Move(REMOVED)), Ok(0)),
+        (Call::Folder(IMAGE, OnFolder::Make), Ok(0)),
+        (Call::File(MOVED, OnFile::Remove), Ok(0)),
     ];
-    for (what, answer, wanted) in answers {
-        assert!(rt; answer == wanted, "{what}");
-    }
+    let other = first_other(&mut disk, host, &rows);
+    assert!(rt; other.is_none(), "{other:?}");
     assert!(rt; disk.fault_count() == 0);
     fs::remove_dir_all(&rt, "changed_folder")?;
     Ok(())
@@ -124,22 +88,31 @@ fn names_and_lengths_change_in_a_real_folder(rt: HostRuntime) -> Result<(), Fail
 fn a_file_grows_and_is_renamed_with_its_bytes(rt: HostRuntime) -> Result<(), Fail> {
     let host = HostId::new(1).ok_or("no host")?;
     let mut disk = image_folder(&rt, "grown_folder")?;
+    let none = Err(DiskAnswer::NoFile);
+    let rows = [
+        (Call::File(META, OnFile::Create(1)), Ok(0)),
+        (Call::File(META_NEW, OnFile::Create(1)), Ok(0)),
+        (Call::File(META_NEW, OnFile::Write(0, 0x41)), Ok(0)),
+        (Call::File(META_NEW, OnFile::Grow(3)), Ok(0)),
+        (Call::File(META_NEW, OnFile::Grow(2)), Ok(0)),
+        (Call::File(META_NEW, OnFile::Length), Ok(1536)),
+        (Call::File(META_NEW, OnFile::Rename(META.name)), Ok(0)),
+        (Call::File(META_NEW, OnFile::Length), none),
+    ];
+    let other = first_other(&mut disk, host, &rows);
+    assert!(rt; other.is_none(), "{other:?}");
     let mut piece = [7; 2048];
-    assert!(rt; disk.create(host, META, 512) == Ok(()));
-    assert!(rt; disk.create(host, META_NEW, 512) == Ok(()));
-    assert!(rt; disk.write_at(host, META_NEW, 0, &[0x41; 512]) == Ok(()));
-    assert!(rt; disk.grow(host, META_NEW, 1536) == Ok(()));
-    assert!(rt; disk.grow(host, META_NEW, 1024) == Ok(()));
-    assert!(rt; disk.length(host, META_NEW) == Ok(1536));
-    assert!(rt; disk.rename(host, META_NEW, META.name) == Ok(()));
-    assert!(rt; disk.length(host, META_NEW) == Err(DiskAnswer::NoFile));
     assert!(rt; disk.read_at(host, META, 0, &mut piece) == Ok(1536));
     for (at, byte) in [(0, 0x41), (511, 0x41), (512, 0), (1535, 0), (1536, 7)] {
         assert!(rt; piece.get(at) == Some(&byte), "at {at}");
     }
-    assert!(rt; disk.move_dir(host, IMAGE, REMOVED) == Ok(()));
-    assert!(rt; disk.length(host, META) == Err(DiskAnswer::NoFile));
-    assert!(rt; disk.length(host, MOVED) == Ok(1536));
+    let moved = [
+        (Call::Folder(IMAGE, OnFolder::Move(REMOVED)), Ok(0)),
+        (Call::File(META, OnFile::Length), none),
+        (Call::File(MOVED, OnFile::Length), Ok(1536)),
+    ];
+    let other = first_other(&mut disk, host, &moved);
+    assert!(rt; other.is_none(), "{other:?}");
     disk.down(host);
     assert!(rt; disk.length(host, MOVED) == Ok(1536));
     assert!(rt; disk.fault_count() == 0);
@@ -157,40 +130,17 @@ fn sectors_are_exchanged_in_a_real_folder(rt: HostRuntime) -> Result<(), Fail> {
     };
     let (old, new) = ([0; 512], [0x41; 512]);
     assert!(rt; disk.create(host, VOLUME, 1024) == Ok(()));
-    let answers = [
-        (
-            "no file",
-            disk.exchange(host, none, 0, &old, &new),
-            Err(DiskAnswer::NoFile),
-        ),
-        (
-            "past the end",
-            disk.exchange(host, VOLUME, 2, &old, &new),
-            Err(DiskAnswer::OutOfFile),
-        ),
-        (
-            "far past it",
-            disk.exchange(host, VOLUME, u64::MAX, &old, &new),
-            Err(DiskAnswer::OutOfFile),
-        ),
-        (
-            "as expected",
-            disk.exchange(host, VOLUME, 1, &old, &new),
-            Ok(Exchanged::Done),
-        ),
-        (
-            "differs",
-            disk.exchange(host, VOLUME, 1, &old, &new),
-            Ok(Exchanged::Found(new)),
-        ),
-        (
-            "the other sector",
-            disk.exchange(host, VOLUME, 0, &new, &new),
-            Ok(Exchanged::Found(old)),
-        ),
+    let rows = [
+        (none, 0, 0, 0x41, Err(DiskAnswer::NoFile)),
+        (VOLUME, 2, 0, 0x41, Err(DiskAnswer::OutOfFile)),
+        (VOLUME, u64::MAX, 0, 0x41, Err(DiskAnswer::OutOfFile)),
+        (VOLUME, 1, 0, 0x41, Ok(Exchanged::Done)),
+        (VOLUME, 1, 0, 0x41, Ok(Exchanged::Found(new))),
+        (VOLUME, 0, 0x41, 0x41, Ok(Exchanged::Found(old))),
     ];
-    for (what, answer, wanted) in answers {
-        assert!(rt; answer == wanted, "{what}");
+    for (place, sector, expect, next, wanted) in rows {
+        let answer = disk.exchange(host, place, sector, &[expect; 512], &[next; 512]);
+        assert!(rt; answer == wanted, "{place:?} {sector} {expect}");
     }
     assert!(rt; disk.fault_count() == 0);
     let path =
@@ -204,6 +154,21 @@ fn sectors_are_exchanged_in_a_real_folder(rt: HostRuntime) -> Result<(), Fail> {
     assert!(rt; fs::read(&rt, path)?.as_slice() == [0x41; 1024].as_slice());
     fs::remove_dir_all(&rt, "exchanged_folder")?;
     Ok(())
+}
+
+// Makes a file of each name, and tells whether all could be made.
+fn are_created(
+    disk: &mut FolderDisk<&HostRuntime>,
+    dir: Dir,
+    names: &[Name],
+) -> Result<bool, Fail> {
+    let host = HostId::new(1).ok_or("no host")?;
+    for name in names {
+        if disk.create(host, Place { dir, name: *name }, 512) != Ok(()) {
+            return Ok(false);
+        }
+    }
+    Ok(true)
 }
 
 // What a folder shows, one after the other.
@@ -239,16 +204,16 @@ fn a_real_folder_shows_its_layout(rt: HostRuntime) -> Result<(), Fail> {
     let host = HostId::new(1).ok_or("no host")?;
     let mut disk = image_folder(&rt, "listed_folder")?;
     let letter = Id([0xaa; 16]);
-    for dir in [
-        REMOVED,
-        Dir::Image(SD, letter),
-        Dir::Master(SD),
-        Dir::DomMd(SD),
-        Dir::Tasks(SD),
-        Dir::Domain(OTHER),
-    ] {
-        assert!(rt; disk.make_dir(host, dir) == Ok(()));
-    }
+    let made = [
+        (Call::Folder(REMOVED, OnFolder::Make), Ok(0)),
+        (Call::Folder(Dir::Image(SD, letter), OnFolder::Make), Ok(0)),
+        (Call::Folder(Dir::Master(SD), OnFolder::Make), Ok(0)),
+        (Call::Folder(Dir::DomMd(SD), OnFolder::Make), Ok(0)),
+        (Call::Folder(Dir::Tasks(SD), OnFolder::Make), Ok(0)),
+        (Call::Folder(Dir::Domain(OTHER), OnFolder::Make), Ok(0)),
+    ];
+    let other = first_other(&mut disk, host, &made);
+    assert!(rt; other.is_none(), "{other:?}");
     let names = [
         Name::Volume(SD),
         Name::VolumeLease(SD),
@@ -265,33 +230,9 @@ fn a_real_folder_shows_its_layout(rt: HostRuntime) -> Result<(), Fail> {
         Name::Outbox,
     ];
     let tasks = [Name::Task(SD), Name::TaskNew(SD), Name::Task(OTHER)];
-    for name in names {
-        assert!(rt; disk.create(host, Place { dir: IMAGE, name }, 512) == Ok(()));
-    }
-    for name in own {
-        assert!(rt;
-            disk.create(
-                host,
-                Place {
-                    dir: Dir::DomMd(SD),
-                    name
-                },
-                512
-            ) == Ok(())
-        );
-    }
-    for name in tasks {
-        assert!(rt;
-            disk.create(
-                host,
-                Place {
-                    dir: Dir::Tasks(SD),
-                    name
-                },
-                512
-            ) == Ok(())
-        );
-    }
+    assert!(rt; are_created(&mut disk, IMAGE, &names)?);
+    assert!(rt; are_created(&mut disk, Dir::DomMd(SD), &own)?);
+    assert!(rt; are_created(&mut disk, Dir::Tasks(SD), &tasks)?);
     put_others(&rt)?;
     let images = [IMAGE, REMOVED, Dir::Image(SD, letter)];
     let parts = [Dir::DomMd(SD), IMAGES, Dir::Master(SD)];
@@ -309,17 +250,28 @@ fn a_real_folder_shows_its_layout(rt: HostRuntime) -> Result<(), Fail> {
         assert!(rt; count_shown(&mut disk, dir, names, dirs)?, "{dir:?}");
     }
     let none = Dir::Image(OTHER, OTHER);
-    assert!(rt; disk.next_name(host, none, None) == Err(DiskAnswer::NoFile));
-    assert!(rt; disk.next_dir(host, none, None) == Err(DiskAnswer::NoFile));
-    assert!(rt; disk.fault_count() == 0);
     // A file stands where an image's folder would.
     let third = Dir::Image(SD, Id([0x33; 16]));
-    assert!(rt; disk.move_dir(host, third, REMOVED) == Err(DiskAnswer::Failed));
-    assert!(rt; disk.move_dir(host, IMAGE, third) == Err(DiskAnswer::Failed));
-    assert!(rt; disk.fault_count() == 2);
-    // What isn't shown goes with its folder.
-    assert!(rt; disk.remove_dir(host, REMOVED) == Ok(()));
-    assert!(rt; disk.remove_dir(host, IMAGE) == Err(DiskAnswer::NotEmpty));
+    let rows = [
+        (Call::Folder(none, OnFolder::Name), Err(DiskAnswer::NoFile)),
+        (Call::Folder(none, OnFolder::Dir), Err(DiskAnswer::NoFile)),
+        (
+            Call::Folder(third, OnFolder::Move(REMOVED)),
+            Err(DiskAnswer::Failed),
+        ),
+        (
+            Call::Folder(IMAGE, OnFolder::Move(third)),
+            Err(DiskAnswer::Failed),
+        ),
+        // What isn't shown goes with its folder.
+        (Call::Folder(REMOVED, OnFolder::Remove), Ok(0)),
+        (
+            Call::Folder(IMAGE, OnFolder::Remove),
+            Err(DiskAnswer::NotEmpty),
+        ),
+    ];
+    let other = first_other(&mut disk, host, &rows);
+    assert!(rt; other.is_none(), "{other:?}");
     assert!(rt; disk.fault_count() == 2);
     fs::remove_dir_all(&rt, "listed_folder")?;
     Ok(())

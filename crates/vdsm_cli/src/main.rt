@@ -11,10 +11,13 @@ mod folder_tests;
 mod layout;
 mod listing;
 mod names;
+#[cfg(test)]
+mod rows;
 mod std_stream;
 #[cfg(test)]
 mod tests;
 mod words;
+mod written;
 
 use folder_disk::FolderDisk;
 use pool_session::vdsm;

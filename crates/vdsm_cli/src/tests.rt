@@ -1,5 +1,6 @@
 // Every call and every answer in a real folder, and streams that fail in mid-stream.
 use crate::folder_disk::FolderDisk;
+use crate::rows::{Call, OnFile, OnFolder, first_other};
 use crate::std_stream::{StdSink, StdSource};
 use crate::words;
 use pool_session::{Sink, Source};
@@ -30,13 +31,17 @@ const FILE_PATH: &str =
 fn a_missing_folder_answers_no_file(rt: HostRuntime) -> Result<(), Fail> {
     let host = HostId::new(1).ok_or("no host")?;
     let mut disk = FolderDisk::new(&rt, rt.alloc(), "missing_folder")?;
-    let mut sector = [7; 512];
-    assert!(rt; disk.make_dir(host, Dir::Domain(SD)) == Err(DiskAnswer::NoFile));
-    assert!(rt; disk.create(host, FILE, 512) == Err(DiskAnswer::NoFile));
-    assert!(rt; disk.length(host, FILE) == Err(DiskAnswer::NoFile));
-    assert!(rt; disk.read_at(host, FILE, 0, &mut sector) == Err(DiskAnswer::NoFile));
-    assert!(rt; disk.write_at(host, FILE, 0, &sector) == Err(DiskAnswer::NoFile));
-    assert!(rt; disk.sync(host, FILE) == Err(DiskAnswer::NoFile));
+    let none = Err(DiskAnswer::NoFile);
+    let rows = [
+        (Call::Folder(Dir::Domain(SD), OnFolder::Make), none),
+        (Call::File(FILE, OnFile::Create(1)), none),
+        (Call::File(FILE, OnFile::Length), none),
+        (Call::File(FILE, OnFile::Read), none),
+        (Call::File(FILE, OnFile::Write(0, 7)), none),
+        (Call::File(FILE, OnFile::Sync), none),
+    ];
+    let other = first_other(&mut disk, host, &rows);
+    assert!(rt; other.is_none(), "{other:?}");
     assert!(rt; disk.fault_count() == 0);
     Ok(())
 }
@@ -47,16 +52,21 @@ fn calls_in_a_real_folder(rt: HostRuntime) -> Result<(), Fail> {
     let _ = fs::remove_dir_all(&rt, ROOT);
     fs::create_dir(&rt, ROOT)?;
     let mut disk = FolderDisk::new(&rt, rt.alloc(), ROOT)?;
-    assert!(rt; disk.make_dir(host, Dir::Domain(SD)) == Ok(()));
-    assert!(rt; disk.make_dir(host, Dir::Domain(SD)) == Err(DiskAnswer::Exists));
-    assert!(rt; disk.make_dir(host, DIR) == Ok(()));
-    assert!(rt; disk.create(host, FILE, 1024) == Ok(()));
-    assert!(rt; disk.create(host, FILE, 512) == Err(DiskAnswer::Exists));
-    assert!(rt; disk.length(host, FILE) == Ok(1024));
-    assert!(rt; disk.write_at(host, FILE, 512, &[0x41; 512]) == Ok(()));
-    assert!(rt; disk.write_at(host, FILE, 1024, &[0x42; 512]) == Err(DiskAnswer::OutOfFile));
-    assert!(rt; disk.write_at(host, FILE, 512, &[0x42; 1024]) == Err(DiskAnswer::OutOfFile));
-    assert!(rt; disk.sync(host, FILE) == Ok(()));
+    let (exists, outside) = (Err(DiskAnswer::Exists), Err(DiskAnswer::OutOfFile));
+    let rows = [
+        (Call::Folder(Dir::Domain(SD), OnFolder::Make), Ok(0)),
+        (Call::Folder(Dir::Domain(SD), OnFolder::Make), exists),
+        (Call::Folder(DIR, OnFolder::Make), Ok(0)),
+        (Call::File(FILE, OnFile::Create(2)), Ok(0)),
+        (Call::File(FILE, OnFile::Create(1)), exists),
+        (Call::File(FILE, OnFile::Length), Ok(1024)),
+        (Call::File(FILE, OnFile::Write(1, 0x41)), Ok(0)),
+        (Call::File(FILE, OnFile::Write(2, 0x42)), outside),
+        (Call::File(FILE, OnFile::WriteTwo(1, 0x42)), outside),
+        (Call::File(FILE, OnFile::Sync), Ok(0)),
+    ];
+    let other = first_other(&mut disk, host, &rows);
+    assert!(rt; other.is_none(), "{other:?}");
     let mut piece = [7; 1536];
     assert!(rt; disk.read_at(host, FILE, 0, &mut piece) == Ok(1024));
     for (at, byte) in [
@@ -104,21 +114,27 @@ fn other_things_at_a_path_are_faults(rt: HostRuntime) -> Result<(), Fail> {
         dir: Dir::Root,
         name: Name::Leases,
     };
+    let dir = Dir::Domain(OTHER);
     let mut disk = FolderDisk::new(&rt, rt.alloc(), ".")?;
-    let mut sector = [7; 512];
-    assert!(rt; disk.create(host, place, 512) == Err(DiskAnswer::Failed));
-    assert!(rt; disk.length(host, place) == Err(DiskAnswer::Failed));
-    assert!(rt; disk.read_at(host, place, 0, &mut sector) == Err(DiskAnswer::Failed));
-    assert!(rt; disk.write_at(host, place, 0, &sector) == Err(DiskAnswer::Failed));
-    assert!(rt; disk.sync(host, place) == Err(DiskAnswer::Failed));
-    assert!(rt; disk.make_dir(host, Dir::Domain(OTHER)) == Err(DiskAnswer::Failed));
-    assert!(rt; disk.grow(host, place, 512) == Err(DiskAnswer::Failed));
-    assert!(rt; disk.rename(host, place, Name::Inbox) == Err(DiskAnswer::Failed));
-    assert!(rt; disk.remove(host, place) == Err(DiskAnswer::Failed));
+    let failed = Err(DiskAnswer::Failed);
+    let rows = [
+        (Call::File(place, OnFile::Create(1)), failed),
+        (Call::File(place, OnFile::Length), failed),
+        (Call::File(place, OnFile::Read), failed),
+        (Call::File(place, OnFile::Write(0, 7)), failed),
+        (Call::File(place, OnFile::Sync), failed),
+        (Call::Folder(dir, OnFolder::Make), failed),
+        (Call::File(place, OnFile::Grow(1)), failed),
+        (Call::File(place, OnFile::Rename(Name::Inbox)), failed),
+        (Call::File(place, OnFile::Remove), failed),
+        (Call::Folder(dir, OnFolder::Remove), failed),
+        (Call::Folder(dir, OnFolder::Name), failed),
+        (Call::Folder(dir, OnFolder::Dir), failed),
+    ];
+    let other = first_other(&mut disk, host, &rows);
+    assert!(rt; other.is_none(), "{other:?}");
+    let sector = [7; 512];
     assert!(rt; disk.exchange(host, place, 0, &sector, &sector) == Err(DiskAnswer::Failed));
-    assert!(rt; disk.remove_dir(host, Dir::Domain(OTHER)) == Err(DiskAnswer::Failed));
-    assert!(rt; disk.next_name(host, Dir::Domain(OTHER), None) == Err(DiskAnswer::Failed));
-    assert!(rt; disk.next_dir(host, Dir::Domain(OTHER), None) == Err(DiskAnswer::Failed));
     assert!(rt; disk.fault_count() == 13);
     fs::remove_dir(&rt, "leases")?;
     fs::remove_file(&rt, "22222222-2222-2222-2222-222222222222")?;
