@@ -1,17 +1,17 @@
--- One position more is clean, or it is the first that has a fault.
-use Rattle.std.proofs.Common.{◌≡◌, ℕ, suc, ◌*◌, ◌/◌, ◌%◌, ◌<◌, ◌≤◌, ◌⊎◌, inl, inr, Bool, true, false, Option, Some, None, refl, sym, ap, ◌∙◌, subst, arith, eq-eqb, nat_lt, nat_le}
+-- One position more is clean.
+use Rattle.std.proofs.Common.{◌≡◌, ℕ, suc, ◌*◌, ◌/◌, ◌%◌, ◌<◌, ◌≤◌, ◌⊎◌, inl, inr, Bool, true, false, Option, Some, None, refl, sym, ap, ◌∙◌, subst, arith, eq-eqb, nat_le}
 use Rattle.std.specs.Prelude.{◌==◌, ◌||◌, if◌then◌else◌}
-use Rattle.std.proofs.Math.Nat.{div-mul-le_self, mul-div_cancel, div-add-mod}
+use Rattle.std.proofs.Math.Nat.{mul-div_cancel, div-add-mod}
 use Rattle.std.proofs.Math.Bool.{or-true}
 use Rattle.std.proofs.lemmas.Nat.{pow_pos}
 use Rattle.std.proofs.lemmas.Bool.{cases_lt, eqb-true}
 use Rattle.std.proofs.lemmas.Bool.Decides.{nat_tests}
 use Rattle.sd_names.specs.declared.fault.LayerFault.{LayerFault}
-use Rattle.sd_names.specs.declared.fault.LayerFault.TheVariants.{Shared, LowRefcount, OutOfFile}
+use Rattle.sd_names.specs.declared.fault.LayerFault.TheVariants.{OutOfFile}
 use Rattle.image_model.specs.Layer.{Tables, cluster_size, count_of}
-use Rattle.image_model.specs.Soundness.{Item, own_fault, outside, names, item, NamedBefore, IsClean, FaultAt, own, again, uncounted}
+use Rattle.image_model.specs.Soundness.{Item, own_fault, outside, names, item, NamedBefore, IsClean}
 use Rattle.qcow_layer.specs.Items.{NamesCluster}
-use Rattle.qcow_layer.specs.Checked.{Checked, IsCounted, fault_of, fault_of_name, or_fault, with_name}
+use Rattle.qcow_layer.specs.Checked.{Checked, with_name}
 
 -- ---- clusters
 
@@ -63,66 +63,22 @@ free : (t : Tables) (capacity n place : ℕ) (used : ℕ → Bool) → Checked t
 free t capacity n place used known aligned e b =
     let f = known.unmarked (place / cluster_size t) (subst (NamedBefore t capacity n) (sym (whole (cluster_size t) place aligned)) b) in cc
 
--- ---- the verdict
-
-some_same : {a b : LayerFault} → Some a ≡ Some b → a ≡ b
-some_same e = cc
-
-count_known : (t : Tables) (counted : ℕ → Bool) (place : ℕ) (b : Bool) → IsCounted t counted → place < t.file.size
-    → counted (place / cluster_size t) ≡ b → b ≡ nat_lt 0 (count_of t (place / cluster_size t))
-count_known t counted place b counts lt e =
-    sym e ∙ counts (place / cluster_size t) (omega (arith, div-mul-le_self place (cluster_size t)))
-
-not_positive : (n : ℕ) → false ≡ nat_lt 0 n → n ≡ 0
-not_positive n e = grind (arith, nat_tests)
-
-positive : (n : ℕ) → true ≡ nat_lt 0 n → 0 < n
-positive n e = grind (arith, nat_tests)
-
-module _ (t : Tables) (capacity n : ℕ) (used counted : ℕ → Bool) (known : Checked t capacity n used) (counts : IsCounted t counted) (aligned : NamesCluster (cluster_size t) (item t capacity n)) where
+module _ (t : Tables) (capacity n : ℕ) (used : ℕ → Bool) (known : Checked t capacity n used) (aligned : NamesCluster (cluster_size t) (item t capacity n)) where
   aligned_name : (place : ℕ) → own_fault t.file.size (item t capacity n) ≡ None → names t capacity n ≡ Some place → place % cluster_size t ≡ 0
   aligned_name place fine is = aligned place (own_none t.file.size (item t capacity n) fine).0 is
 
-  refused_name : (fault : LayerFault) (o : Option ℕ) → names t capacity n ≡ o → own_fault t.file.size (item t capacity n) ≡ None
-      → fault_of_name (cluster_size t) used counted o ≡ Some fault → FaultAt t capacity n fault
-  refused_name fault None is fine e = absurd cc
-  refused_name fault (Some place) is fine e = by_use (used (place / cluster_size t)) refl e
-    where
-      by_count : used (place / cluster_size t) ≡ false → (b : Bool) → counted (place / cluster_size t) ≡ b → (if b then None else Some (LowRefcount place)) ≡ Some fault → FaultAt t capacity n fault
-      by_count u true c e = absurd cc
-      by_count u false c e =
-          subst (FaultAt t capacity n) (some_same e)
-          (uncounted fine is (free t capacity n place used known (aligned_name place fine is) u)
-          (not_positive _ (count_known t counted place false counts (inside t.file.size (item t capacity n) place fine is) c)))
+  pub named_before : (place : ℕ) → own_fault t.file.size (item t capacity n) ≡ None → names t capacity n ≡ Some place → used (place / cluster_size t) ≡ true → NamedBefore t capacity n place
+  named_before place fine is u = taken t capacity n place used known (aligned_name place fine is) u
 
-      by_use : (b : Bool) → used (place / cluster_size t) ≡ b
-          → (if b then Some (Shared place) else (if counted (place / cluster_size t) then None else Some (LowRefcount place))) ≡ Some fault → FaultAt t capacity n fault
-      by_use true u e = subst (FaultAt t capacity n) (some_same e) (again fine is (taken t capacity n place used known (aligned_name place fine is) u))
-      by_use false u e = by_count u (counted (place / cluster_size t)) refl e
+  -- the cluster that it names, if it does, wasn't named and has a count
+  abbrev pub IsFree : Type 0
+  IsFree = (place : ℕ) → names t capacity n ≡ Some place → (used (place / cluster_size t) ≡ false) × (0 < count_of t (place / cluster_size t))
 
-  pub refused_here : (fault : LayerFault) → fault_of t.file.size (cluster_size t) used counted (item t capacity n) ≡ Some fault → FaultAt t capacity n fault
-  refused_here fault = go (own_fault t.file.size (item t capacity n)) refl
-    where
-      go : (o : Option LayerFault) → own_fault t.file.size (item t capacity n) ≡ o
-          → or_fault o (fault_of_name (cluster_size t) used counted (names t capacity n)) ≡ Some fault → FaultAt t capacity n fault
-      go None fine e = refused_name fault (names t capacity n) refl fine e
-      go (Some f) is e = own (is ∙ e)
-
-  clean_name : (o : Option ℕ) (place : ℕ) → o ≡ Some place → fault_of_name (cluster_size t) used counted o ≡ None
-      → (used (place / cluster_size t) ≡ false) × (counted (place / cluster_size t) ≡ true)
-  clean_name None place is e = absurd cc
-  clean_name (Some p) place is e = let same : p ≡ place = cc in subst (λ x. (used (x / cluster_size t) ≡ false) × (counted (x / cluster_size t) ≡ true)) same (tests (used (p / cluster_size t)) (counted (p / cluster_size t)) e)
-    where
-      tests : (u c : Bool) → (if u then Some (Shared p) else (if c then None else Some (LowRefcount p))) ≡ None → (u ≡ false) × (c ≡ true)
-      tests true c e = absurd cc
-      tests false true e = (refl, refl)
-      tests false false e = absurd cc
-
-  clean_here : own_fault t.file.size (item t capacity n) ≡ None → fault_of_name (cluster_size t) used counted (names t capacity n) ≡ None → IsClean t capacity n
-  clean_here fine e = record {
+  clean_here : own_fault t.file.size (item t capacity n) ≡ None → IsFree → IsClean t capacity n
+  clean_here fine is_free = record {
     fine = fine;
-    once = λ place is b. free t capacity n place used known (aligned_name place fine is) (clean_name (names t capacity n) place is e).0 b;
-    counted = λ place is. positive _ (count_known t counted place true counts (inside t.file.size (item t capacity n) place fine is) (clean_name (names t capacity n) place is e).1);
+    once = λ place is b. free t capacity n place used known (aligned_name place fine is) (is_free place is).0 b;
+    counted = λ place is. (is_free place is).1;
   }
 
   marked_by : (o : Option ℕ) (c : ℕ) → names t capacity n ≡ o → own_fault t.file.size (item t capacity n) ≡ None
@@ -148,9 +104,9 @@ module _ (t : Tables) (capacity n : ℕ) (used counted : ℕ → Bool) (known : 
       let f : c ≡ place / cluster_size t = sym (ap (λ x. x / cluster_size t) same ∙ mul-div_cancel c (cluster_pos t)) in
       ap (λ b. b || used c) (eq-eqb c (place / cluster_size t) f)
 
-  advance : (used' : ℕ → Bool) → own_fault t.file.size (item t capacity n) ≡ None → fault_of_name (cluster_size t) used counted (names t capacity n) ≡ None
+  pub advance : (used' : ℕ → Bool) → own_fault t.file.size (item t capacity n) ≡ None → IsFree
       → ((c : ℕ) → used' c ≡ with_name (cluster_size t) used (names t capacity n) c) → Checked t capacity (suc n) used'
-  advance used' fine e marks = record {
+  advance used' fine is_free marks = record {
     clean = λ m lt. by_clean m (cases_lt m n) lt;
     aligned = λ m place lt is. by_aligned m place (cases_lt m n) lt is;
     marked = λ c f. marked_by (names t capacity n) c refl fine (sym (marks c) ∙ f);
@@ -159,7 +115,7 @@ module _ (t : Tables) (capacity n : ℕ) (used counted : ℕ → Bool) (known : 
     where
       by_clean : (m : ℕ) → (m < n) ⊎ (n ≤ m) → m < suc n → IsClean t capacity m
       by_clean m (inl lt) l = known.clean m lt
-      by_clean m (inr le) l = subst (IsClean t capacity) (omega arith) (clean_here fine e)
+      by_clean m (inr le) l = subst (IsClean t capacity) (omega arith) (clean_here fine is_free)
 
       by_aligned : (m place : ℕ) → (m < n) ⊎ (n ≤ m) → m < suc n → names t capacity m ≡ Some place → place % cluster_size t ≡ 0
       by_aligned m place (inl lt) l is = known.aligned m place lt is
@@ -168,13 +124,3 @@ module _ (t : Tables) (capacity n : ℕ) (used counted : ℕ → Bool) (known : 
       by_named : (c : ℕ) → NamedBefore t capacity n (c * cluster_size t) ⊎ (names t capacity n ≡ Some (c * cluster_size t)) → with_name (cluster_size t) used (names t capacity n) c ≡ true
       by_named c (inl b) = with_old (names t capacity n) c (known.unmarked c b)
       by_named c (inr is) = with_new (names t capacity n) c is
-
-  split : (o p : Option LayerFault) → or_fault o p ≡ None → (o ≡ None) × (p ≡ None)
-  split None p e = (refl, e)
-  split (Some f) p e = absurd cc
-
-  pub admitted_here : (used' : ℕ → Bool) → fault_of t.file.size (cluster_size t) used counted (item t capacity n) ≡ None
-      → ((c : ℕ) → used' c ≡ with_name (cluster_size t) used (names t capacity n) c) → Checked t capacity (suc n) used'
-  admitted_here used' e marks =
-      let both = split (own_fault t.file.size (item t capacity n)) (fault_of_name (cluster_size t) used counted (names t capacity n)) e in
-      advance used' both.0 both.1 marks

@@ -21,7 +21,7 @@ use Rattle.qcow_layer.specs.Seen.{IsSeen}
 use Rattle.qcow_layer.specs.declared.work.Target.{Target}
 use Rattle.qcow_layer.specs.declared.work.Work.{Work}
 use Rattle.qcow_layer.specs.declared.work.Phase.{Phase}
-use Rattle.qcow_layer.specs.declared.work.Phase.TheVariants.{Begun, Sized, Counting, Blocks, L1, L2}
+use Rattle.qcow_layer.specs.declared.work.Phase.TheVariants.{Begun, Sized, Counting, Blocks, L1, L2, Taken}
 use Rattle.qcow_layer.proofs.Pieces.{past_end, same_file}
 use Rattle.qcow_layer.proofs.Starts.{size_of}
 
@@ -50,6 +50,8 @@ bounds target host count sectors (L1 work i) h d knows is =
     let w = knows.holds in work_of target.capacity count sectors work h w.header is w.fits.size w.fits.cluster
 bounds target host count sectors (L2 work i table j) h d knows is =
     let w = knows.holds.0 in work_of target.capacity count sectors work h w.header is w.fits.size w.fits.cluster
+bounds target host count sectors (Taken work place block) h d knows is =
+    let w = knows.holds.is_work in work_of target.capacity count sectors work h w.header is w.size w.cluster
 
 -- ---- what others may do
 
@@ -61,6 +63,7 @@ holds_on capacity before after count sectors (Counting work next block) holds sa
 holds_on capacity before after count sectors (Blocks work k) holds same = holds
 holds_on capacity before after count sectors (L1 work i) holds same = holds
 holds_on capacity before after count sectors (L2 work i table j) holds same = holds
+holds_on capacity before after count sectors (Taken work place block) holds same = holds
 
 pub survives : (target : Target) (host count : ℕ) (sectors : ℕ → List ℕ) (phase : Phase) (d e : Content) → (knows : Knows target host count sectors phase d)
     → (s : IsSeen host target.place count sectors e) → SameLength phase knows.seen.file.size s.file.size → Knows target host count sectors phase e

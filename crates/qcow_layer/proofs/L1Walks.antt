@@ -4,9 +4,7 @@ use Rattle.std.specs.Prelude.{MatchResult}
 use Rattle.std.proofs.lemmas.Bool.{cases_lt}
 use Rattle.std.proofs.lemmas.Nat.{pow_pos}
 use Rattle.std.proofs.Math.Nat.{mul-le-mul_right, div-add-mod, mod-lt}
-use Rattle.sd_names.specs.declared.fault.LayerFault.{LayerFault}
-use Rattle.sd_names.specs.declared.refusal.Refusal.TheVariants.{LayerRefused}
-use Rattle.sd_names.specs.declared.turn.Turn.TheVariants.{More, Done, Ended}
+use Rattle.sd_names.specs.declared.turn.Turn.TheVariants.{More, Done}
 use Rattle.shared_disk.specs.Content.{Content}
 use Rattle.shared_disk.specs.Calls.{IsSame}
 use Rattle.qcow_format.specs.Bytes.{number}
@@ -14,12 +12,13 @@ use Rattle.image_model.specs.File.{File, file_of, sector_in}
 use Rattle.image_model.specs.Layer.{Tables, cluster_size, entries, l1_clusters, l1_at}
 use Rattle.image_model.specs.Soundness.{Item, item, IsClean}
 use Rattle.qcow_layer.specs.Checked.{Checked}
-use Rattle.qcow_layer.specs.Marks.{used_by}
+use Rattle.qcow_layer.specs.Marks.{used_in}
 use Rattle.qcow_layer.specs.Positions.{ReachedL1, PassesL1, l1_position}
-use Rattle.qcow_layer.specs.Phases.{Knows, Steps, tables_of}
+use Rattle.qcow_layer.specs.Phases.{After, Knows, Steps, objected, tables_of}
 use Rattle.qcow_layer.specs.Items.{layer_of}
 use Rattle.qcow_layer.specs.Seen.{IsSeen}
 use Rattle.qcow_layer.specs.declared.marks.Marks.{Marks}
+use Rattle.qcow_layer.specs.declared.objection.Objection.{Objection}
 use Rattle.qcow_layer.specs.declared.work.Target.{Target}
 use Rattle.qcow_layer.specs.declared.work.Work.{Work}
 use Rattle.qcow_layer.specs.declared.work.Phase.TheVariants.{L1, L2}
@@ -27,7 +26,8 @@ use Rattle.qcow_layer.proofs.Admit.{inside}
 use Rattle.qcow_layer.proofs.Moves.{fits_after}
 use Rattle.qcow_layer.proofs.Places.{item_l1_cluster, item_past}
 use Rattle.qcow_layer.proofs.Skip.{clean_nothing}
-use Rattle.qcow_layer.proofs.Walks.{first_fault, last_end, word_at, by_sectors, with_marks}
+use Rattle.qcow_layer.proofs.Objects.{objected_gone, objects, with_marks, works_on}
+use Rattle.qcow_layer.proofs.Walks.{last_end, word_at, by_sectors}
 
 -- ---- past the last entry
 
@@ -48,7 +48,7 @@ l1_end target host work i d past = record {
       let file : File = file_of count sectors in
       record {
         sound = subst (λ r. MatchResult r (λ h. (n : ℕ) → IsClean (layer_of h file) target.capacity n) (λ f. ⊥)) (sym knows.holds.header.0)
-            (all_clean (tables_of work file) target.capacity i (used_by work.marks) past knows.holds.clean);
+            (all_clean (tables_of work file) target.capacity i (used_in (tables_of work file) work.marks) past knows.holds.clean);
         header = knows.holds.header;
         fits = knows.holds.fits;
       };
@@ -95,7 +95,7 @@ module _ (target : Target) (host : ℕ) (work : Work) (after : Marks) (i at : �
     (lt : i < work.header.l1_size)
     (near : work.header.l1_table_offset + 8 * i < 2 ^ 64 → at ≡ work.header.l1_table_offset + 8 * i)
     (read : (count : ℕ) (sectors : ℕ → List ℕ) → IsSeen host target.place count sectors d → sector ≡ sector_in count sectors (at / 512 * 512 / 512)) where
-  reached : (result : Result (Option ℕ) LayerFault) → PassesL1 work.header i (number 8 (8 * (at % 512 / 8)) sector) work.marks after result
+  reached : (result : Result (Option ℕ) Objection) → PassesL1 work.header i (number 8 (8 * (at % 512 / 8)) sector) work.marks after result
       → (count : ℕ) (sectors : ℕ → List ℕ) → Knows target host count sectors (L1 work i) d → ReachedL1 (tables_of work (file_of count sectors)) target.capacity i after result
   reached result passes count sectors knows =
       let t : Tables = tables_of work (file_of count sectors) in
@@ -106,16 +106,19 @@ module _ (target : Target) (host : ℕ) (work : Work) (after : Marks) (i at : �
       let word = word_of_sector count sectors (l1_at t i) at sector (omega (arith, even)) (near (omega (arith, low))) (read count sectors knows.seen) in
       passes.reaches (file_of count sectors) target.capacity lt (omega (arith, low)) word here.fits here.clean
 
-  pub l1_faulted : (fault : LayerFault) → PassesL1 work.header i (number 8 (8 * (at % 512 / 8)) sector) work.marks after (Err fault) → IsSame d e
-      → Steps target host (L1 work i) (Ended tt (LayerRefused target.volume fault)) d e
-  l1_faulted fault passes same = record {
-    same = same;
-    gone = tt;
-    after = λ count sectors knows. (refl, first_fault target.capacity (file_of count sectors) work.header fault knows.holds.header.0 (reached (Err fault) passes count sectors knows));
-  }
-
   module _ (low : 12 ≤ work.header.cluster_bits) (high : work.header.cluster_bits ≤ 21) (few : work.header.l1_size < 2 ^ 32)
       (even : work.header.l1_table_offset % 2 ^ work.header.cluster_bits ≡ 0) (even' : work.header.refcount_table_offset % 2 ^ work.header.cluster_bits ≡ 0) where
+    pub l1_objected : (objection : Objection) → PassesL1 work.header i (number 8 (8 * (at % 512 / 8)) sector) work.marks after (Err objection) → IsSame d e
+        → Steps target host (L1 work i) (objected target (with_marks work after low high few even even') objection) d e
+    l1_objected objection passes same = record {
+      same = same;
+      gone = objected_gone target (with_marks work after low high few even even') objection d;
+      after = λ count sectors knows. subst (After target host count sectors (objected target (with_marks work after low high few even even') objection)) (sym same)
+          (objects target host count sectors (with_marks work after low high few even even') objection d knows.seen
+          (works_on target.capacity (file_of count sectors) work after low high few even even' knows.holds.header knows.holds.fits passes.keeps)
+          (reached (Err objection) passes count sectors knows));
+    }
+
     pub l1_without : PassesL1 work.header i (number 8 (8 * (at % 512 / 8)) sector) work.marks after (Ok None) → IsSame d e
         → Steps target host (L1 work i) (More (L1 (with_marks work after low high few even even') (i + 1))) d e
     l1_without passes same = record {

@@ -2,10 +2,8 @@
 use Rattle.std.proofs.Common.{◌≡◌, ℕ, ◌+◌, ◌*◌, ◌/◌, ◌%◌, ◌^◌, ◌<◌, ◌≤◌, Bool, true, false, not, List, Option, Some, None, Ok, Err, refl, sym, ap, ◌∙◌, subst, arith}
 use Rattle.std.specs.Prelude.{◌==◌, ◌&&◌, if◌then◌else◌}
 use Rattle.std.proofs.Math.Nat.{mod-lt, pow-le-pow_right}
-use Rattle.sd_names.specs.declared.fault.LayerFault.{LayerFault}
 use Rattle.sd_names.specs.declared.fault.LayerFault.TheVariants.{MixedBits}
-use Rattle.sd_names.specs.declared.refusal.Refusal.TheVariants.{LayerRefused}
-use Rattle.sd_names.specs.declared.turn.Turn.TheVariants.{More, Ended}
+use Rattle.sd_names.specs.declared.turn.Turn.TheVariants.{More}
 use Rattle.shared_disk.specs.Content.{Content}
 use Rattle.shared_disk.specs.Calls.{IsSame}
 use Rattle.qcow_format.specs.declared.header.Header.{Header}
@@ -15,15 +13,17 @@ use Rattle.image_model.specs.File.{File, file_of, sector_in}
 use Rattle.image_model.specs.Layer.{Tables, entries, l1_at, l2_at}
 use Rattle.image_model.specs.Soundness.{before_mapping}
 use Rattle.qcow_layer.specs.Positions.{Reached, HasEntries, PassesEntries, l1_position, l2_position}
-use Rattle.qcow_layer.specs.Phases.{IsChecking, Knows, Steps, tables_of}
+use Rattle.qcow_layer.specs.Phases.{After, IsChecking, Knows, Steps, objected, tables_of}
 use Rattle.qcow_layer.specs.Items.{layer_of}
 use Rattle.qcow_layer.specs.Seen.{IsSeen}
 use Rattle.qcow_layer.specs.declared.marks.Marks.{Marks}
+use Rattle.qcow_layer.specs.declared.objection.Objection.{Objection}
 use Rattle.qcow_layer.specs.declared.work.Target.{Target}
 use Rattle.qcow_layer.specs.declared.work.Work.{Work}
 use Rattle.qcow_layer.specs.declared.work.Phase.TheVariants.{L1, L2}
 use Rattle.qcow_layer.proofs.Moves.{fits_after}
-use Rattle.qcow_layer.proofs.Walks.{first_fault, word_at, with_marks, pages}
+use Rattle.qcow_layer.proofs.Objects.{objected_gone, objects, with_marks, works_on}
+use Rattle.qcow_layer.proofs.Walks.{word_at, pages}
 
 -- ---- the place of a table
 
@@ -82,7 +82,7 @@ module _ (target : Target) (host : ℕ) (work : Work) (after : Marks) (i table j
     (lt : j < 2 ^ work.header.cluster_bits / 8)
     (near : table + 8 * j < 2 ^ 64 → at ≡ table + 8 * j)
     (read : (count : ℕ) (sectors : ℕ → List ℕ) → IsSeen host target.place count sectors d → sector ≡ sector_in count sectors (at / 512 * 512 / 512)) where
-  reached : (result : Option LayerFault) → PassesEntries work.header target.capacity i table j 64 sector work.marks after result
+  reached : (result : Option Objection) → PassesEntries work.header target.capacity i table j 64 sector work.marks after result
       → (count : ℕ) (sectors : ℕ → List ℕ) → Knows target host count sectors (L2 work i table j) d
       → Reached (tables_of work (file_of count sectors)) target.capacity (l2_position (tables_of work (file_of count sectors)) i (j + 64)) after result
   reached result passes count sectors knows =
@@ -101,12 +101,17 @@ module _ (target : Target) (host : ℕ) (work : Work) (after : Marks) (i table j
       entries_few : (bits : ℕ) → bits ≤ 21 → 2 ^ bits / 8 ≤ 262144
       entries_few bits high = let width : 2 ^ bits ≤ 2 ^ 21 = pow-le-pow_right (omega arith) high in omega (arith, width)
 
-  pub l2_faulted : (fault : LayerFault) → PassesEntries work.header target.capacity i table j 64 sector work.marks after (Some fault) → IsSame d e
-      → Steps target host (L2 work i table j) (Ended tt (LayerRefused target.volume fault)) d e
-  l2_faulted fault passes same = record {
+  pub l2_objected : (low : 12 ≤ work.header.cluster_bits) (high : work.header.cluster_bits ≤ 21) (few : work.header.l1_size < 2 ^ 32)
+      (even : work.header.l1_table_offset % 2 ^ work.header.cluster_bits ≡ 0) (even' : work.header.refcount_table_offset % 2 ^ work.header.cluster_bits ≡ 0)
+      (objection : Objection) → PassesEntries work.header target.capacity i table j 64 sector work.marks after (Some objection) → IsSame d e
+      → Steps target host (L2 work i table j) (objected target (with_marks work after low high few even even') objection) d e
+  l2_objected low high few even even' objection passes same = record {
     same = same;
-    gone = tt;
-    after = λ count sectors knows. (refl, first_fault target.capacity (file_of count sectors) work.header fault knows.holds.0.header.0 (reached (Some fault) passes count sectors knows));
+    gone = objected_gone target (with_marks work after low high few even even') objection d;
+    after = λ count sectors knows. subst (After target host count sectors (objected target (with_marks work after low high few even even') objection)) (sym same)
+        (objects target host count sectors (with_marks work after low high few even even') objection d knows.seen
+        (works_on target.capacity (file_of count sectors) work after low high few even even' knows.holds.0.header knows.holds.0.fits passes.keeps)
+        (reached (Some objection) passes count sectors knows));
   }
 
   pub l2_more : (low : 12 ≤ work.header.cluster_bits) (high : work.header.cluster_bits ≤ 21) (few : work.header.l1_size < 2 ^ 32)

@@ -19,3 +19,5 @@ pub mod Starts
 pub mod Walks
 pub mod Words
 pub mod Known
+pub mod Objects
+pub mod TakenWalks

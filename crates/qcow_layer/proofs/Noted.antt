@@ -13,7 +13,7 @@ use Rattle.image_model.specs.File.{File, file_of, sector_in}
 use Rattle.image_model.specs.Layer.{Tables, cluster_size, block_word, block_place, count_of}
 use Rattle.qcow_format.specs.declared.header.Header.{Header}
 use Rattle.qcow_layer.specs.Left.{Nears, WorksOn, counting_left}
-use Rattle.qcow_layer.specs.Marks.{CountsSector, KeepsUse, counted_by}
+use Rattle.qcow_layer.specs.Marks.{CountsSector, KeepsSize, free_by}
 use Rattle.qcow_layer.specs.Phases.{IsCounting, Knows, Steps, tables_of}
 use Rattle.qcow_layer.specs.Seen.{IsSeen}
 use Rattle.qcow_layer.specs.declared.marks.Marks.{Marks}
@@ -23,7 +23,8 @@ use Rattle.qcow_layer.specs.declared.work.Phase.TheVariants.{Counting}
 use Rattle.qcow_layer.proofs.Blocks.{span_of, span_some, not_turned, room_in_row, in_row, row_ends, same_sector, word_read, half_read, past_table, in_table, count_none, count_in}
 use Rattle.qcow_layer.proofs.Falls.{found_falls, skipped_falls, turned_falls, more_falls}
 use Rattle.qcow_layer.proofs.Starts.{size_of}
-use Rattle.qcow_layer.proofs.Walks.{by_sectors, with_marks}
+use Rattle.qcow_layer.proofs.Objects.{with_marks}
+use Rattle.qcow_layer.proofs.Walks.{by_sectors}
 
 -- how many clusters a block counts
 abbrev span : Work → ℕ
@@ -43,7 +44,6 @@ skip_counting capacity file work next knows none =
     let past : next < end = row_ends s next (span_some work.header.cluster_bits work.low) in
     record {
       is_work = knows.is_work;
-      unused = knows.unused;
       below = λ c lt within. by_below c lt within (cases_lt c next);
       above = λ c le. knows.above c (omega (arith, le, past));
       whole = even_end (next / s + 1) s (8 * 2 ^ (work.header.cluster_bits - 12)) (span_of work.header.cluster_bits work.low);
@@ -59,7 +59,7 @@ skip_counting capacity file work next knows none =
         swap a q = omega arith
 
     by_below : (c : ℕ) → c < (next / span work + 1) * span work → c * cluster_size (tables_of work file) < file.size → (c < next) ⊎ (next ≤ c)
-        → counted_by work.marks c ≡ nat_lt 0 (count_of (tables_of work file) c)
+        → free_by work.marks c ≡ nat_lt 0 (count_of (tables_of work file) c)
     by_below c lt within (inl less) = knows.below c less within
     by_below c lt within (inr more) =
         let row = in_row (span work) next c (span_some work.header.cluster_bits work.low) (knows.start refl) more lt in
@@ -115,7 +115,6 @@ module _ (target : Target) (host : ℕ) (work : Work) (next at : ℕ) (sector : 
       seen = knows.seen;
       holds = record {
         is_work = knows.holds.is_work;
-        unused = knows.holds.unused;
         below = knows.holds.below;
         above = knows.holds.above;
         whole = knows.holds.whole;
@@ -134,7 +133,7 @@ module _ (capacity count : ℕ) (sectors : ℕ → List ℕ) (work : Work) (afte
     (over : 2 ^ 64 ≤ place + 2 * (next % (2 ^ work.header.cluster_bits / 2)) → at ≡ 2 ^ 64 - 1)
     (is : sector ≡ sector_in count sectors (at / 512 * 512 / 512))
     (noted : CountsSector next 256 sector work.marks after) where
-  here : (j : ℕ) → j < 256 → counted_by after (next + j) ≡ nat_lt 0 (count_of (tables_of work (file_of count sectors)) (next + j))
+  here : (j : ℕ) → j < 256 → free_by after (next + j) ≡ nat_lt 0 (count_of (tables_of work (file_of count sectors)) (next + j))
   here j lt =
       let file : File = file_of count sectors in
       let t : Tables = tables_of work file in
@@ -168,14 +167,14 @@ module _ (capacity count : ℕ) (sectors : ℕ → List ℕ) (work : Work) (afte
           swap a q = omega arith
 
   below : (c : ℕ) → c < next + 256 → c * cluster_size (tables_of work (file_of count sectors)) < (file_of count sectors).size
-      → counted_by after c ≡ nat_lt 0 (count_of (tables_of work (file_of count sectors)) c)
+      → free_by after c ≡ nat_lt 0 (count_of (tables_of work (file_of count sectors)) c)
   below c lt within = go (cases_lt c next)
     where
-      go : (c < next) ⊎ (next ≤ c) → counted_by after c ≡ nat_lt 0 (count_of (tables_of work (file_of count sectors)) c)
+      go : (c < next) ⊎ (next ≤ c) → free_by after c ≡ nat_lt 0 (count_of (tables_of work (file_of count sectors)) c)
       go (inl less) = noted.outside c (inl less) ∙ knows.below c less within
       go (inr more) =
           let split : next + (c - next) ≡ c = omega (arith, more) in
-          subst (λ n. counted_by after n ≡ nat_lt 0 (count_of (tables_of work (file_of count sectors)) n)) split (here (c - next) (omega (arith, more, lt)))
+          subst (λ n. free_by after n ≡ nat_lt 0 (count_of (tables_of work (file_of count sectors)) n)) split (here (c - next) (omega (arith, more, lt)))
 
   module _ (low : 12 ≤ work.header.cluster_bits) (high : work.header.cluster_bits ≤ 21) (few : work.header.l1_size < 2 ^ 32)
       (even : work.header.l1_table_offset % 2 ^ work.header.cluster_bits ≡ 0) (even' : work.header.refcount_table_offset % 2 ^ work.header.cluster_bits ≡ 0) where
@@ -187,7 +186,6 @@ module _ (capacity count : ℕ) (sectors : ℕ → List ℕ) (work : Work) (afte
         size = noted.keeps.size ∙ knows.is_work.size;
         cluster = noted.keeps.cluster ∙ knows.is_work.cluster;
       };
-      unused = λ c. noted.keeps.used c ∙ knows.unused c;
       below = below;
       above = λ c le. noted.outside c (inr le) ∙ knows.above c (omega (arith, le));
       whole = next_whole next knows.whole;
@@ -249,7 +247,7 @@ module _ (work : Work) (n : ℕ) (lt : n * work.marks.cluster < work.marks.size)
         (skipped_falls h size n (known_bits h size w) (known_size h size w)),
   )
 
-  module _ (after : Marks) (place : ℕ) (keeps : KeepsUse work.marks after) (low : 12 ≤ work.header.cluster_bits) (high : work.header.cluster_bits ≤ 21) (few : work.header.l1_size < 2 ^ 32)
+  module _ (after : Marks) (place : ℕ) (keeps : KeepsSize work.marks after) (low : 12 ≤ work.header.cluster_bits) (high : work.header.cluster_bits ≤ 21) (few : work.header.l1_size < 2 ^ 32)
       (even : work.header.l1_table_offset % 2 ^ work.header.cluster_bits ≡ 0) (even' : work.header.refcount_table_offset % 2 ^ work.header.cluster_bits ≡ 0) where
     before : (h : Header) (size : ℕ) → WorksOn h size (with_marks work after low high few even even') → WorksOn h size work
     before h size w = (w.0, sym keeps.size ∙ w.1, sym keeps.cluster ∙ w.2)

@@ -8,17 +8,18 @@ use Rattle.image_model.specs.File.{File}
 use Rattle.image_model.specs.Layer.{Tables, entries, block_at, block_word, l1_at, l1_entry, l2_at}
 use Rattle.image_model.specs.Soundness.{Item, item, block_item, l1_item_of, l2_item_of, l2_item, outside, before_mapping}
 use Rattle.qcow_layer.specs.Items.{layer_of, NamesCluster}
-use Rattle.qcow_layer.specs.Checked.{Checked, fault_of, fault_of_name, or_fault}
-use Rattle.qcow_layer.specs.Marks.{Admits, used_by, counted_by}
+use Rattle.qcow_layer.specs.Checked.{Checked, against, against_name, or_against}
+use Rattle.qcow_layer.specs.Marks.{Admits, free_by, used_in}
 use Rattle.qcow_layer.specs.Positions.{Reached, ReachedL1, PassesBlock, PassesBlocks, PassesEntry, PassesEntries, PassesL1, block_position, l1_position, l2_position}
 use Rattle.qcow_layer.specs.declared.marks.Marks.{Marks}
+use Rattle.qcow_layer.specs.declared.objection.Objection.{Objection}
 use Rattle.qcow_layer.proofs.Moves.{moved, fits_after, keeps_same, keeps_both}
 use Rattle.qcow_layer.proofs.Places.{item_block, item_l1, item_l2, item_behind}
 use Rattle.qcow_layer.proofs.Skip.{skipped}
 
 -- ---- the refcount table
 
-pub one_block : (header : Header) (k at bits : ℕ) (before after : Marks) (x : Item) (result : Option LayerFault)
+pub one_block : (header : Header) (k at bits : ℕ) (before after : Marks) (x : Item) (result : Option Objection)
     → Admits before after x result
     → ((file : File) (n : ℕ) → block_at (layer_of header file) n ≡ at → block_word (layer_of header file) n ≡ bits → x ≡ block_item (layer_of header file) n)
     → (header.refcount_table_offset + 8 * k < 2 ^ 64 → header.refcount_table_offset + 8 * k ≡ at)
@@ -35,10 +36,10 @@ pub no_blocks : (header : Header) (k : ℕ) (sector : List ℕ) (m : Marks) → 
 no_blocks header k sector m = record {
   keeps = keeps_same m;
   reaches = λ file capacity lt low has fits known.
-      subst (λ n. Checked (layer_of header file) capacity (block_position (layer_of header file) n) (used_by m)) (omega arith) known;
+      subst (λ n. Checked (layer_of header file) capacity (block_position (layer_of header file) n) (used_in (layer_of header file) m)) (omega arith) known;
 }
 
-pub next_blocks : (header : Header) (k j : ℕ) (sector : List ℕ) (a b c : Marks) (result : Option LayerFault) → j < 64
+pub next_blocks : (header : Header) (k j : ℕ) (sector : List ℕ) (a b c : Marks) (result : Option Objection) → j < 64
     → PassesBlocks header k j sector a b None → PassesBlock header (k + j) (number 8 (8 * j) sector) b c result → PassesBlocks header k (j + 1) sector a c result
 next_blocks header k j sector a b c result lt p q = record {
   keeps = keeps_both a b c p.keeps q.keeps;
@@ -49,13 +50,13 @@ next_blocks header k j sector a b c result lt p q = record {
       (q.reaches file capacity (omega (arith, room)) (omega (arith, low)) (sym (has j lt)) (fits_after t a b p.keeps fits) here);
 }
 
-pub last_blocks : (header : Header) (k j : ℕ) (sector : List ℕ) (a c : Marks) (fault : LayerFault)
-    → PassesBlocks header k j sector a c (Some fault) → PassesBlocks header k 64 sector a c (Some fault)
-last_blocks header k j sector a c fault p = record { keeps = p.keeps; reaches = p.reaches }
+pub last_blocks : (header : Header) (k j : ℕ) (sector : List ℕ) (a c : Marks) (objection : Objection)
+    → PassesBlocks header k j sector a c (Some objection) → PassesBlocks header k 64 sector a c (Some objection)
+last_blocks header k j sector a c objection p = record { keeps = p.keeps; reaches = p.reaches }
 
 -- ---- an L2 table
 
-pub one_entry : (header : Header) (capacity i table j at bits : ℕ) (past : Bool) (before after : Marks) (x : Item) (result : Option LayerFault)
+pub one_entry : (header : Header) (capacity i table j at bits : ℕ) (past : Bool) (before after : Marks) (x : Item) (result : Option Objection)
     → Admits before after x result → past ≡ nat_le capacity ((i * (2 ^ header.cluster_bits / 8) + j) * 2 ^ header.cluster_bits)
     → ((file : File) (capacity start : ℕ) → past ≡ nat_le capacity start → x ≡ l2_item_of (layer_of header file) capacity start at (entry_in bits header.version at))
     → (table + 8 * j < 2 ^ 64 → table + 8 * j ≡ at)
@@ -78,10 +79,10 @@ pub no_entries : (header : Header) (capacity i table j : ℕ) (sector : List ℕ
 no_entries header capacity i table j sector m = record {
   keeps = keeps_same m;
   reaches = λ file lt room low named has fits known.
-      subst (λ n. Checked (layer_of header file) capacity (l2_position (layer_of header file) i n) (used_by m)) (omega arith) known;
+      subst (λ n. Checked (layer_of header file) capacity (l2_position (layer_of header file) i n) (used_in (layer_of header file) m)) (omega arith) known;
 }
 
-pub next_entries : (header : Header) (capacity i table j m : ℕ) (sector : List ℕ) (a b c : Marks) (result : Option LayerFault) → m < 64
+pub next_entries : (header : Header) (capacity i table j m : ℕ) (sector : List ℕ) (a b c : Marks) (result : Option Objection) → m < 64
     → PassesEntries header capacity i table j m sector a b None → PassesEntry header capacity i table (j + m) (number 8 (8 * m) sector) b c result
     → PassesEntries header capacity i table j (m + 1) sector a c result
 next_entries header capacity i table j m sector a b c result lt p q = record {
@@ -93,44 +94,44 @@ next_entries header capacity i table j m sector a b c result lt p q = record {
       (q.reaches file few (omega (arith, room)) (omega (arith, low)) named (sym (has m lt)) (fits_after t a b p.keeps fits) here);
 }
 
-pub last_entries : (header : Header) (capacity i table j m : ℕ) (sector : List ℕ) (a c : Marks) (fault : LayerFault)
-    → PassesEntries header capacity i table j m sector a c (Some fault) → PassesEntries header capacity i table j 64 sector a c (Some fault)
-last_entries header capacity i table j m sector a c fault p = record { keeps = p.keeps; reaches = p.reaches }
+pub last_entries : (header : Header) (capacity i table j m : ℕ) (sector : List ℕ) (a c : Marks) (objection : Objection)
+    → PassesEntries header capacity i table j m sector a c (Some objection) → PassesEntries header capacity i table j 64 sector a c (Some objection)
+last_entries header capacity i table j m sector a c objection p = record { keeps = p.keeps; reaches = p.reaches }
 
 -- ---- an L1 entry
 
-no_fault : (m : Marks) (x : Item) (fault : LayerFault) → x.wrong ≡ Some fault → None ≡ fault_of m.size m.cluster (used_by m) (counted_by m) x → ⊥
+no_fault : (m : Marks) (x : Item) (fault : LayerFault) → x.wrong ≡ Some fault → None ≡ against m.size m.cluster (free_by m) x → ⊥
 no_fault m x fault e f = go x.wrong e f
   where
     go : (w : Option LayerFault) → w ≡ Some fault
-        → None ≡ or_fault (elim w as (λ _. Option LayerFault) [ None ↦ outside m.size x.at x.name | Some g ↦ Some g ]) (fault_of_name m.cluster (used_by m) (counted_by m) x.name) → ⊥
+        → None ≡ or_against (elim w as (λ _. Option LayerFault) [ None ↦ outside m.size x.at x.name | Some g ↦ Some g ]) (against_name m.cluster (free_by m) x.name) → ⊥
     go None e f = cc
     go (Some g) e f = cc
 
 l1_named : (t : Tables) (capacity i : ℕ) (after : Marks) (r : Result (Option ℕ) LayerFault) → i < t.header.l1_size → l1_entry t i ≡ r
-    → ((fault : LayerFault) → r ≡ Err fault → ⊥) → Checked t capacity (suc (l1_position t i)) (used_by after)
+    → ((fault : LayerFault) → r ≡ Err fault → ⊥) → Checked t capacity (suc (l1_position t i)) (used_in t after)
     → ReachedL1 t capacity i after (Ok (l1_item_of t (l1_at t i) r).name)
 l1_named t capacity i after (Err fault) lt e fine known = absurd (fine fault refl)
-l1_named t capacity i after (Ok (Some table)) lt e fine known = (e, subst (λ n. Checked t capacity n (used_by after)) (omega arith) known)
+l1_named t capacity i after (Ok (Some table)) lt e fine known = (e, subst (λ n. Checked t capacity n (used_in t after)) (omega arith) known)
 l1_named t capacity i after (Ok None) lt e fine known =
-    skipped t capacity (suc (l1_position t i)) (l1_position t (i + 1)) (used_by after) known (wide (before_mapping t) i (entries t))
+    skipped t capacity (suc (l1_position t i)) (l1_position t (i + 1)) (used_in t after) known (wide (before_mapping t) i (entries t))
     (λ m above below. item_behind t capacity i m lt e above below)
   where
     wide : (before i e : ℕ) → suc (before + i * (1 + e)) ≤ before + (i + 1) * (1 + e)
     wide before i e = omega arith
 
-pub l1_refused : (header : Header) (i at bits : ℕ) (before after : Marks) (x : Item) (fault : LayerFault)
-    → Admits before after x (Some fault)
+pub l1_refused : (header : Header) (i at bits : ℕ) (before after : Marks) (x : Item) (objection : Objection)
+    → Admits before after x (Some objection)
     → ((file : File) → x ≡ l1_item_of (layer_of header file) at (table_in bits at))
     → (header.l1_table_offset + 8 * i < 2 ^ 64 → header.l1_table_offset + 8 * i ≡ at)
-    → NamesCluster (2 ^ header.cluster_bits) x → PassesL1 header i bits before after (Err fault)
-l1_refused header i at bits before after x fault admits same near aligned = record {
+    → NamesCluster (2 ^ header.cluster_bits) x → PassesL1 header i bits before after (Err objection)
+l1_refused header i at bits before after x objection admits same near aligned = record {
   keeps = admits.keeps;
   reaches = λ file capacity lt low word fits known.
       let t : Tables = layer_of header file in
       let is : x ≡ item t capacity (l1_position t i) =
       same file ∙ ap (λ n. l1_item_of t n (table_in bits n)) (sym (near low)) ∙ ap (λ w. l1_item_of t (l1_at t i) (table_in w (l1_at t i))) (sym word) ∙ sym (item_l1 t capacity i lt) in
-      moved t capacity (l1_position t i) before after x (Some fault) admits fits is aligned known;
+      moved t capacity (l1_position t i) before after x (Some objection) admits fits is aligned known;
 }
 
 pub l1_admitted : (header : Header) (i at bits : ℕ) (before after : Marks) (x : Item)

@@ -21,7 +21,7 @@ use Rattle.sd_names.specs.declared.refusal.Refusal.{Refusal}
 use Rattle.image_model.specs.Soundness.{HasFault, FirstFault, layer_header, layer_header_of}
 use Rattle.qcow_layer.specs.Items.{layer_of}
 use Rattle.std.proofs.Math.Nat.{zero-mod}
-use Rattle.qcow_layer.specs.Marks.{used_by, counted_by}
+use Rattle.qcow_layer.specs.Marks.{free_by}
 use Rattle.qcow_layer.specs.declared.work.Work.{Work}
 use Rattle.qcow_layer.specs.Phases.{BeginsCounting, Knows, Steps}
 use Rattle.qcow_layer.specs.Seen.{IsSeen, IsReadRefusal, head_of}
@@ -132,8 +132,8 @@ header_small target length header lt parent host count sectors d seen is long e 
 )
 
 pub header_fine : (target : Target) (length : ℕ) (work : Work) → target.capacity ≤ work.header.size → work.marks.size ≡ length → work.marks.cluster ≡ 2 ^ work.header.cluster_bits
-    → ((c : ℕ) → used_by work.marks c ≡ false) → ((c : ℕ) → counted_by work.marks c ≡ false) → BeginsCounting target length work.header work.parent (More (Counting work 0 None))
-header_fine target length work fits size cluster used counted host count sectors d seen is long e named = record {
+    → ((c : ℕ) → free_by work.marks c ≡ false) → BeginsCounting target length work.header work.parent (More (Counting work 0 None))
+header_fine target length work fits size cluster free host count sectors d seen is long e named = record {
   seen = seen;
   holds = record {
     is_work = record {
@@ -144,9 +144,8 @@ header_fine target length work fits size cluster used counted host count sectors
       size = size ∙ is ∙ sym (size_of count sectors);
       cluster = cluster;
     };
-    unused = used;
     below = λ c lt. absurd (omega (arith, lt));
-    above = λ c le. counted c;
+    above = λ c le. free c;
     whole = refl;
     known = λ place f. absurd cc;
     some = λ place f. absurd cc;

@@ -1,12 +1,10 @@
 -- Steps over the tables of a layer, in words of what is known before and after.
-use Rattle.std.proofs.Common.{◌≡◌, inl, inr, ℕ, zero, suc, ◌+◌, ◌-◌, ◌*◌, ◌/◌, ◌%◌, ◌^◌, ◌<◌, ◌≤◌, Bool, true, List, Option, Some, None, Ok, refl, sym, ap, ◌∙◌, subst, arith, nat_lt}
-use Rattle.std.specs.Prelude.{MatchResult, if◌then◌else◌}
+use Rattle.std.proofs.Common.{◌≡◌, inl, inr, ℕ, zero, suc, ◌+◌, ◌-◌, ◌*◌, ◌/◌, ◌%◌, ◌^◌, ◌<◌, ◌≤◌, Bool, true, List, Option, Some, None, refl, sym, ap, ◌∙◌, subst, arith, nat_lt}
+use Rattle.std.specs.Prelude.{if◌then◌else◌}
 use Rattle.std.proofs.lemmas.Bool.Decides.{nat_tests}
 use Rattle.std.proofs.lemmas.Nat.{pow_pos, pow-add}
 use Rattle.std.proofs.Math.Nat.{div-lt_iff_lt-mul, div-add-mod, mul-le-mul_left, pow-le-pow_right, mul_comm, add-mul-mod_self_right}
-use Rattle.sd_names.specs.declared.fault.LayerFault.{LayerFault}
 use Rattle.sd_names.specs.declared.refusal.Refusal.{Refusal}
-use Rattle.sd_names.specs.declared.refusal.Refusal.TheVariants.{LayerRefused}
 use Rattle.sd_names.specs.declared.turn.Turn.TheVariants.{More, Ended}
 use Rattle.shared_disk.specs.Content.{Content}
 use Rattle.shared_disk.specs.Calls.{IsSame}
@@ -14,20 +12,22 @@ use Rattle.qcow_format.specs.declared.header.Header.{Header}
 use Rattle.qcow_format.specs.Bytes.{number}
 use Rattle.image_model.specs.File.{File, file_of, sector_in}
 use Rattle.image_model.specs.Layer.{Tables, cluster_size, entries, l1_clusters, block_at}
-use Rattle.image_model.specs.Soundness.{Item, item, FirstFault, HasFault, layer_header}
+use Rattle.image_model.specs.Soundness.{Item, item}
 use Rattle.qcow_layer.specs.Checked.{Checked}
 use Rattle.qcow_layer.specs.Items.{layer_of}
-use Rattle.qcow_layer.specs.Marks.{used_by}
+use Rattle.qcow_layer.specs.Marks.{used_in}
 use Rattle.qcow_layer.specs.Positions.{Reached, HasBlocks, PassesBlocks, block_position, l1_position}
-use Rattle.qcow_layer.specs.Phases.{IsChecking, Knows, Steps, IsRefused, IsGone, tables_of}
+use Rattle.qcow_layer.specs.Phases.{After, IsChecking, Knows, Steps, IsRefused, IsGone, objected, tables_of}
 use Rattle.qcow_layer.specs.Seen.{IsSeen, IsReadRefusal}
 use Rattle.qcow_layer.specs.declared.marks.Marks.{Marks}
+use Rattle.qcow_layer.specs.declared.objection.Objection.{Objection}
 use Rattle.qcow_layer.specs.declared.work.Target.{Target}
 use Rattle.qcow_layer.specs.declared.work.Work.{Work}
 use Rattle.qcow_layer.specs.declared.work.Phase.{Phase}
 use Rattle.qcow_layer.specs.declared.work.Phase.TheVariants.{Blocks, L1}
 use Rattle.qcow_layer.proofs.Admit.{inside}
 use Rattle.qcow_layer.proofs.Moves.{fits_after}
+use Rattle.qcow_layer.proofs.Objects.{objected_gone, objects, with_marks, works_on}
 use Rattle.qcow_layer.proofs.Places.{item_table_cluster}
 
 -- ---- a read that was refused
@@ -51,12 +51,6 @@ read_refused target host faults phase refusal d e same cause = record {
   gone = gone target refusal faults d cause;
   after = λ count sectors knows. refused_read target host count sectors refusal faults d (file_of count sectors) knows.seen cause;
 }
-
--- ---- a fault of the layer
-
-pub first_fault : (capacity : ℕ) (file : File) (header : Header) (fault : LayerFault) → layer_header file capacity ≡ Ok header → FirstFault (layer_of header file) capacity fault → HasFault file capacity fault
-first_fault capacity file header fault e first =
-    subst (λ r. MatchResult r (λ h. FirstFault (layer_of h file) capacity fault) (λ f. f ≡ fault)) (sym e) first
 
 -- ---- sizes
 
@@ -149,10 +143,6 @@ blocks_end target host work k d past = record {
 
 -- ---- 64 entries of the refcount table
 
-abbrev pub with_marks : (work : Work) (marks : Marks) → 12 ≤ work.header.cluster_bits → work.header.cluster_bits ≤ 21 → work.header.l1_size < 2 ^ 32
-    → work.header.l1_table_offset % 2 ^ work.header.cluster_bits ≡ 0 → work.header.refcount_table_offset % 2 ^ work.header.cluster_bits ≡ 0 → Work
-with_marks work marks low high few even even' = record { header = work.header; parent = work.parent; marks = marks; low = low; high = high; few = few; l1_aligned = even; table_aligned = even' }
-
 -- the entries of a table go by whole sectors
 rows : (bits clusters k : ℕ) → 12 ≤ bits → k % 64 ≡ 0 → k < clusters * (2 ^ bits / 8) → k + 64 ≤ clusters * (2 ^ bits / 8)
 rows bits clusters k low even lt =
@@ -193,14 +183,14 @@ module _ (target : Target) (host : ℕ) (work : Work) (after : Marks) (k at : �
     (lt : k < work.header.refcount_table_clusters * (2 ^ work.header.cluster_bits / 8))
     (near : work.header.refcount_table_offset + 8 * k < 2 ^ 64 → at ≡ work.header.refcount_table_offset + 8 * k)
     (read : (count : ℕ) (sectors : ℕ → List ℕ) → IsSeen host target.place count sectors d → sector ≡ sector_in count sectors (at / 512 * 512 / 512)) where
-  reached : (result : Option LayerFault) → PassesBlocks work.header k 64 sector work.marks after result → (count : ℕ) (sectors : ℕ → List ℕ) → Knows target host count sectors (Blocks work k) d
+  reached : (result : Option Objection) → PassesBlocks work.header k 64 sector work.marks after result → (count : ℕ) (sectors : ℕ → List ℕ) → Knows target host count sectors (Blocks work k) d
       → Reached (tables_of work (file_of count sectors)) target.capacity (block_position (tables_of work (file_of count sectors)) (k + 64)) after result
   reached result passes count sectors knows =
       let t : Tables = tables_of work (file_of count sectors) in
       let here = knows.holds.0 in
       let room = rows work.header.cluster_bits work.header.refcount_table_clusters k work.low knows.holds.1 lt in
       let small : t.file.size < 2 ^ 64 = subst (λ n. n < 2 ^ 64) here.fits.size work.marks.fits in
-      let end = table_end t target.capacity (block_position t k) (used_by work.marks) here.clean (omega arith) work.high work.table_aligned small (some_clusters work.header.refcount_table_clusters (2 ^ work.header.cluster_bits / 8) k lt) in
+      let end = table_end t target.capacity (block_position t k) (used_in t work.marks) here.clean (omega arith) work.high work.table_aligned small (some_clusters work.header.refcount_table_clusters (2 ^ work.header.cluster_bits / 8) k lt) in
       let low = row_end work.header.cluster_bits work.header.refcount_table_offset work.header.refcount_table_clusters k work.low end room in
       let even = by_sectors work.header.cluster_bits work.header.refcount_table_offset work.low work.table_aligned in
       let is = read count sectors knows.seen ∙ ap (sector_in count sectors) (same_sector at (work.header.refcount_table_offset + 8 * k) (near (omega (arith, low)))) in
@@ -209,12 +199,17 @@ module _ (target : Target) (host : ℕ) (work : Work) (after : Marks) (k at : �
       same_sector : (a b : ℕ) → a ≡ b → a / 512 * 512 / 512 ≡ b / 512
       same_sector a b e = omega (arith, e)
 
-  pub blocks_faulted : (fault : LayerFault) → PassesBlocks work.header k 64 sector work.marks after (Some fault) → IsSame d e
-      → Steps target host (Blocks work k) (Ended tt (LayerRefused target.volume fault)) d e
-  blocks_faulted fault passes same = record {
+  pub blocks_objected : (low : 12 ≤ work.header.cluster_bits) (high : work.header.cluster_bits ≤ 21) (few : work.header.l1_size < 2 ^ 32)
+      (even : work.header.l1_table_offset % 2 ^ work.header.cluster_bits ≡ 0) (even' : work.header.refcount_table_offset % 2 ^ work.header.cluster_bits ≡ 0)
+      (objection : Objection) → PassesBlocks work.header k 64 sector work.marks after (Some objection) → IsSame d e
+      → Steps target host (Blocks work k) (objected target (with_marks work after low high few even even') objection) d e
+  blocks_objected low high few even even' objection passes same = record {
     same = same;
-    gone = tt;
-    after = λ count sectors knows. (refl, first_fault target.capacity (file_of count sectors) work.header fault knows.holds.0.header.0 (reached (Some fault) passes count sectors knows));
+    gone = objected_gone target (with_marks work after low high few even even') objection d;
+    after = λ count sectors knows. subst (After target host count sectors (objected target (with_marks work after low high few even even') objection)) (sym same)
+        (objects target host count sectors (with_marks work after low high few even even') objection d knows.seen
+        (works_on target.capacity (file_of count sectors) work after low high few even even' knows.holds.0.header knows.holds.0.fits passes.keeps)
+        (reached (Some objection) passes count sectors knows));
   }
 
   pub blocks_more : (low : 12 ≤ work.header.cluster_bits) (high : work.header.cluster_bits ≤ 21) (few : work.header.l1_size < 2 ^ 32)

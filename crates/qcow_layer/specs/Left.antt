@@ -6,15 +6,15 @@ use Rattle.sd_names.specs.Turn.{MatchTurn}
 use Rattle.qcow_format.specs.declared.header.Header.{Header}
 use Rattle.qcow_layer.specs.declared.work.Work.{Work}
 use Rattle.qcow_layer.specs.declared.work.Phase.{Phase}
-use Rattle.qcow_layer.specs.declared.work.Phase.TheVariants.{Begun, Sized, Counting, Blocks, L1, L2}
+use Rattle.qcow_layer.specs.declared.work.Phase.TheVariants.{Begun, Sized, Counting, Blocks, L1, L2, Taken}
 
 -- how many groups of so many are left of a total, from n on
 abbrev pub groups_left : ℕ → ℕ → ℕ → ℕ
 groups_left per total n = (total + (per - 1)) / per - n / per
 
--- the L1 entries from i on, each with its table
+-- the L1 entries from i on, each with its table, and a cluster's count where one isn't free
 abbrev pub l1_left : Header → ℕ → ℕ
-l1_left h i = 1 + (h.l1_size - i) * (2 + groups_left 64 (2 ^ h.cluster_bits / 8) 0)
+l1_left h i = 3 + (h.l1_size - i) * (2 + groups_left 64 (2 ^ h.cluster_bits / 8) 0)
 
 -- the entries from j on of the L2 table behind L1 entry i, and what comes behind it
 abbrev pub l2_left : Header → ℕ → ℕ → ℕ
@@ -49,6 +49,8 @@ left_of h size (Counting work n block) = counting_left h size n block
 left_of h size (Blocks work k) = blocks_left h k
 left_of h size (L1 work i) = l1_left h i
 left_of h size (L2 work i table j) = l2_left h i j
+left_of h size (Taken work place None) = 2
+left_of h size (Taken work place (Some block)) = 1
 
 -- the header and the file's size are these
 abbrev pub WorksOn : Header → ℕ → Work → Type 0
@@ -62,6 +64,7 @@ IsOf h size (Counting work n block) = WorksOn h size work
 IsOf h size (Blocks work k) = WorksOn h size work
 IsOf h size (L1 work i) = WorksOn h size work
 IsOf h size (L2 work i table j) = WorksOn h size work
+IsOf h size (Taken work place block) = WorksOn h size work
 
 -- the header and the size of a phase are those of the phase before it, and fewer steps are left
 abbrev pub Nears : Phase → Phase → Type 0

@@ -1,52 +1,52 @@
--- The clusters of a file that were named, and those with a count.
-use Rattle.std.specs.Prelude.{◌≡◌, ◌≢◌, ◌⊎◌, ℕ, ◌+◌, ◌*◌, ◌<◌, ◌≤◌, nat_lt, ◌||◌, Bool, List, Option, None}
-use Rattle.sd_names.specs.declared.fault.LayerFault.{LayerFault}
+-- The clusters of a file that are free: that have a count, and weren't named.
+use Rattle.std.specs.Prelude.{◌≡◌, ◌≢◌, ◌⊎◌, ℕ, ◌+◌, ◌*◌, ◌<◌, ◌≤◌, nat_lt, not, ◌||◌, ◌&&◌, Bool, true, List, Option, None}
 use Rattle.qcow_format.specs.Bytes.{number}
-use Rattle.image_model.specs.Layer.{Tables, cluster_size}
+use Rattle.image_model.specs.Layer.{Tables, cluster_size, count_of}
 use Rattle.image_model.specs.Soundness.{Item}
 use Rattle.qcow_layer.specs.Bits.{has}
-use Rattle.qcow_layer.specs.Checked.{IsCounted, fault_of, with_name}
+use Rattle.qcow_layer.specs.Checked.{against, without_name}
 use Rattle.qcow_layer.specs.declared.marks.Marks.{Marks}
+use Rattle.qcow_layer.specs.declared.objection.Objection.{Objection}
 
--- the clusters that were named, and those with a count
-abbrev pub used_by : Marks → ℕ → Bool
-used_by m c = has m.used c
+-- the clusters that are free
+abbrev pub free_by : Marks → ℕ → Bool
+free_by m c = has m.free c
 
-abbrev pub counted_by : Marks → ℕ → Bool
-counted_by m c = has m.counted c
+-- the clusters that were named: those in the file that have a count and aren't free
+abbrev pub used_in : Tables → Marks → ℕ → Bool
+used_in t m c = nat_lt (c * cluster_size t) t.file.size && (nat_lt 0 (count_of t c) && not (free_by m c))
 
--- the file's size and its clusters' are as they were, and so are the clusters with a count
+-- the file's size and its clusters' are as they were, and no cluster is free that wasn't
 pub record KeepsFile (before after : Marks) : Type 0 where
   pub size : after.size ≡ before.size
   pub cluster : after.cluster ≡ before.cluster
-  pub counted : (c : ℕ) → counted_by after c ≡ counted_by before c
+  pub fewer : (c : ℕ) → free_by after c ≡ true → free_by before c ≡ true
 
--- one item is admitted: its cluster is marked, or it has a fault
-pub record Admits (before after : Marks) (x : Item) (result : Option LayerFault) : Type 0 where
+-- one item is admitted, and its cluster isn't free any more, or something speaks against it
+pub record Admits (before after : Marks) (x : Item) (result : Option Objection) : Type 0 where
   pub keeps : KeepsFile before after
-  pub verdict : result ≡ fault_of before.size before.cluster (used_by before) (counted_by before) x
-  pub marks : result ≡ None → (c : ℕ) → used_by after c ≡ with_name before.cluster (used_by before) x.name c
+  pub verdict : result ≡ against before.size before.cluster (free_by before) x
+  pub marks : result ≡ None → (c : ℕ) → free_by after c ≡ without_name before.cluster (free_by before) x.name c
 
--- the marks are of this layer's file
+-- the marks are of this layer's file, and what is free in it has a count
 pub record MarksFile (m : Marks) (t : Tables) : Type 0 where
   pub size : m.size ≡ t.file.size
   pub cluster : m.cluster ≡ cluster_size t
-  pub counted : IsCounted t (counted_by m)
+  pub counted : (c : ℕ) → c * cluster_size t < t.file.size → free_by m c ≡ true → 0 < count_of t c
 
--- the marks of the same file, with the same clusters named
-pub record KeepsUse (before after : Marks) : Type 0 where
+-- the marks of the same file
+pub record KeepsSize (before after : Marks) : Type 0 where
   pub size : after.size ≡ before.size
   pub cluster : after.cluster ≡ before.cluster
-  pub used : (c : ℕ) → used_by after c ≡ used_by before c
 
 -- the count of one cluster is noted
 pub record Counts (before after : Marks) (c count : ℕ) : Type 0 where
-  pub keeps : KeepsUse before after
-  pub here : counted_by after c ≡ (nat_lt 0 count || counted_by before c)
-  pub others : (k : ℕ) → k ≢ c → counted_by after k ≡ counted_by before k
+  pub keeps : KeepsSize before after
+  pub here : free_by after c ≡ (nat_lt 0 count || free_by before c)
+  pub others : (k : ℕ) → k ≢ c → free_by after k ≡ free_by before k
 
 -- the counts of the first so many clusters from `next` on, which a sector has, are noted
 pub record CountsSector (next many : ℕ) (sector : List ℕ) (before after : Marks) : Type 0 where
-  pub keeps : KeepsUse before after
-  pub inside : (j : ℕ) → j < many → counted_by after (next + j) ≡ (nat_lt 0 (number 2 (j * 2) sector) || counted_by before (next + j))
-  pub outside : (k : ℕ) → (k < next) ⊎ (next + many ≤ k) → counted_by after k ≡ counted_by before k
+  pub keeps : KeepsSize before after
+  pub inside : (j : ℕ) → j < many → free_by after (next + j) ≡ (nat_lt 0 (number 2 (j * 2) sector) || free_by before (next + j))
+  pub outside : (k : ℕ) → (k < next) ⊎ (next + many ≤ k) → free_by after k ≡ free_by before k

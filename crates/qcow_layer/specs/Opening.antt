@@ -14,7 +14,7 @@ use Rattle.qcow_layer.specs.Seen.{IsSeen}
 use Rattle.qcow_layer.specs.declared.layer.Layer.{Layer}
 use Rattle.qcow_layer.specs.declared.opening.Opening.{Opening}
 use Rattle.qcow_layer.specs.declared.work.Phase.{Phase}
-use Rattle.qcow_layer.specs.declared.work.Phase.TheVariants.{Begun, Sized, Counting, Blocks, L1, L2}
+use Rattle.qcow_layer.specs.declared.work.Phase.TheVariants.{Begun, Sized, Counting, Blocks, L1, L2, Taken}
 use Rattle.qcow_layer.specs.declared.work.Target.{Target}
 
 -- which layer is opened
@@ -53,6 +53,7 @@ SameLength (Counting work next block) before after = Unit {0}
 SameLength (Blocks work k) before after = Unit {0}
 SameLength (L1 work i) before after = Unit {0}
 SameLength (L2 work i table j) before after = Unit {0}
+SameLength (Taken work place block) before after = Unit {0}
 
 abbrev pub HasSameLength : Opening → ℕ → ℕ → Type 0
 HasSameLength o before after = SameLength o.phase before after

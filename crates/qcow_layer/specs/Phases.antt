@@ -5,6 +5,7 @@ use Rattle.sd_names.specs.declared.refusal.Refusal.{Refusal}
 use Rattle.sd_names.specs.declared.refusal.Refusal.TheVariants.{DiskFault, Vanished, LayerRefused, OutOfMemory}
 use Rattle.sd_names.specs.declared.turn.Absence.TheVariants as absence
 use Rattle.sd_names.specs.declared.turn.Turn.{Turn}
+use Rattle.sd_names.specs.declared.turn.Turn.TheVariants.{More, Ended}
 use Rattle.sd_names.specs.Turn.{MatchTurn}
 use Rattle.shared_disk.specs.Content.{Content}
 use Rattle.shared_disk.specs.Calls.{IsSame}
@@ -14,15 +15,18 @@ use Rattle.qcow_format.specs.Name.{backing_id}
 use Rattle.image_model.specs.File.{File, file_of}
 use Rattle.image_model.specs.Layer.{Tables, cluster_size, entries, count_of, block_span, block_place, l1_entry}
 use Rattle.image_model.specs.Soundness.{layer_header, HasFault, IsSound}
-use Rattle.qcow_layer.specs.Checked.{Checked}
+use Rattle.qcow_layer.specs.Checked.{Checked, IsTaken}
 use Rattle.qcow_layer.specs.Items.{layer_of}
-use Rattle.qcow_layer.specs.Marks.{MarksFile, used_by, counted_by}
+use Rattle.qcow_layer.specs.Marks.{MarksFile, free_by, used_in}
 use Rattle.qcow_layer.specs.Positions.{block_position, l1_position, l2_position}
 use Rattle.qcow_layer.specs.Seen.{IsSeen, HasCauseNow, head_of}
+use Rattle.qcow_layer.specs.declared.objection.Objection.{Objection}
+use Rattle.qcow_layer.specs.declared.objection.Objection.TheVariants as objection
+use Rattle.qcow_layer.specs.declared.objection.Objection.TheVariants.{Fault}
 use Rattle.qcow_layer.specs.declared.work.Target.{Target}
 use Rattle.qcow_layer.specs.declared.work.Work.{Work}
 use Rattle.qcow_layer.specs.declared.work.Phase.{Phase}
-use Rattle.qcow_layer.specs.declared.work.Phase.TheVariants.{Begun, Sized, Counting, Blocks, L1, L2}
+use Rattle.qcow_layer.specs.declared.work.Phase.TheVariants.{Begun, Sized, Counting, Blocks, L1, L2, Taken}
 
 -- the layer that is looked at
 abbrev pub tables_of : Work → File → Tables
@@ -41,9 +45,8 @@ pub record IsWork (capacity : ℕ) (file : File) (work : Work) : Type 0 where
 -- The counts of the clusters below `next` are noted, and no others; where a block is told it is that of `next`.
 pub record IsCounting (capacity : ℕ) (file : File) (work : Work) (next : ℕ) (block : Option ℕ) : Type 0 where
   pub is_work : IsWork capacity file work
-  pub unused : (c : ℕ) → used_by work.marks c ≡ false
-  pub below : (c : ℕ) → c < next → c * cluster_size (tables_of work file) < file.size → counted_by work.marks c ≡ nat_lt 0 (count_of (tables_of work file) c)
-  pub above : (c : ℕ) → next ≤ c → counted_by work.marks c ≡ false
+  pub below : (c : ℕ) → c < next → c * cluster_size (tables_of work file) < file.size → free_by work.marks c ≡ nat_lt 0 (count_of (tables_of work file) c)
+  pub above : (c : ℕ) → next ≤ c → free_by work.marks c ≡ false
   pub whole : next % 256 ≡ 0
   pub known : (place : ℕ) → block ≡ Some place → block_place (tables_of work file) (next / block_span (tables_of work file)) ≡ place
   pub some : (place : ℕ) → block ≡ Some place → 0 < place
@@ -53,7 +56,14 @@ pub record IsCounting (capacity : ℕ) (file : File) (work : Work) (next : ℕ) 
 pub record IsChecking (capacity : ℕ) (file : File) (work : Work) (n : ℕ) : Type 0 where
   pub header : HasHeader capacity file work
   pub fits : MarksFile work.marks (tables_of work file)
-  pub clean : Checked (tables_of work file) capacity n (used_by work.marks)
+  pub clean : Checked (tables_of work file) capacity n (used_in (tables_of work file) work.marks)
+
+-- A cluster isn't free that the least position names which isn't clean. Where a block is told it is that of the cluster.
+pub record IsDoubted (capacity : ℕ) (file : File) (work : Work) (place : ℕ) (block : Option ℕ) : Type 0 where
+  pub is_work : IsWork capacity file work
+  pub taken : IsTaken (tables_of work file) capacity place
+  pub known : (b : ℕ) → block ≡ Some b → block_place (tables_of work file) (place / cluster_size (tables_of work file) / block_span (tables_of work file)) ≡ b
+  pub some : (b : ℕ) → block ≡ Some b → 0 < b
 
 -- What is known in a phase of a file that has, or had when it was asked, so many sectors. `now` is how many it has.
 abbrev pub PhaseKnows : ℕ → ℕ → ℕ → (ℕ → List ℕ) → Phase → Type 0
@@ -67,6 +77,7 @@ PhaseKnows capacity now count sectors (L1 work i) =
 PhaseKnows capacity now count sectors (L2 work i table j) =
     IsChecking capacity (file_of count sectors) work (l2_position (tables_of work (file_of count sectors)) i j)
     × (i < work.header.l1_size) × (l1_entry (tables_of work (file_of count sectors)) i ≡ Ok (Some table)) × (j % 64 ≡ 0) × (j ≤ entries (tables_of work (file_of count sectors)))
+PhaseKnows capacity now count sectors (Taken work place block) = IsDoubted capacity (file_of count sectors) work place block
 
 pub record Knows (target : Target) (host count : ℕ) (sectors : ℕ → List ℕ) (phase : Phase) (d : Content) : Type 0 where
   pub seen : IsSeen host target.place count sectors d
@@ -111,6 +122,11 @@ StepsAlone target phase turn = (host : ℕ) (d : Content) → Steps target host 
 abbrev pub BeginsCounting : Target → ℕ → Header → Option Id → Turn Phase Work (Unit {0}) → Type 0
 BeginsCounting target length header parent turn = (host count : ℕ) (sectors : ℕ → List ℕ) (d : Content) → IsSeen host target.place count sectors d
     → length ≡ 512 * count → 512 ≤ length → header_of (head_of count sectors) ≡ Ok header → parent ≡ backing_id header (head_of count sectors) → After target host count sectors turn d
+
+-- a fault ends the opening, and a name of a cluster that isn't free asks for its count
+abbrev pub objected : Target → Work → Objection → Turn Phase Work (Unit {0})
+objected target work (Fault fault) = Ended tt (LayerRefused target.volume fault)
+objected target work (objection.Taken place) = More (Taken work place None)
 
 -- what a step does to the disk's counts, whatever the disk tells
 pub record StepCounts {S T : Type 0} (faults faults' calls calls' : ℕ) (turn : Turn S T (Unit {0})) : Type 0 where

@@ -41,4 +41,13 @@ impl Bits {
     {
         self.words[(n / 64) as usize] |= 1 << (n % 64);
     }
+    /// Takes a number out of the set.
+    pub(crate) fn remove(&mut self, n: u64)
+        requires { n < room_of self.old }
+        ensures here { has self.new n ≡ false }
+        ensures others { (k : ℕ) → k ≢ n → has self.new k ≡ has self.old k }
+        ensures room { room_of self.new ≡ room_of self.old }
+    {
+        self.words[(n / 64) as usize] &= !(1 << (n % 64));
+    }
 }

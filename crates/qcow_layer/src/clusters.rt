@@ -4,8 +4,8 @@ ghost use Rattle.qcow_layer.specs.Positions.{PassesClusters, PassesHeader};
 
 use crate::item::cluster_bytes;
 use crate::marks::Marks;
+use crate::objection::Objection;
 use qcow_format::Header;
-use sd_names::LayerFault;
 
 // So many clusters from `first` on, which the field of the header at `at` names.
 fn check_clusters(
@@ -14,29 +14,35 @@ fn check_clusters(
     at: u64,
     first: u64,
     count: u64,
-) -> Option<LayerFault>
+) -> Option<Objection>
     ensures { PassesClusters header.now at first count marks.old marks.new result }
 {
     for k in 0..count {
-        if let Some(fault) = marks.admit_cluster(at, first, k) {
-            return Some(fault);
+        if let Some(objection) = marks.admit_cluster(at, first, k) {
+            return Some(objection);
         }
     }
     None
 }
 
 /// The clusters that the header names.
-pub(crate) fn check_header(header: &Header, marks: &mut Marks) -> Option<LayerFault>
+pub(crate) fn check_header(header: &Header, marks: &mut Marks) -> Option<Objection>
     requires { header.now.cluster_bits ≤ 21 }
     ensures { PassesHeader header.now marks.old marks.new result }
 {
-    if let Some(fault) = marks.admit_name(0, 0) {
-        return Some(fault);
+    if let Some(objection) = marks.admit_name(0, 0) {
+        return Some(objection);
     }
     let cluster = cluster_bytes(header);
     let l1_clusters = (8 * u64::from(header.l1_size) + (cluster - 1)) / cluster;
-    if let Some(fault) = check_clusters(header, marks, 40, header.l1_table_offset, l1_clusters) {
-        return Some(fault);
+    if let Some(objection) = check_clusters(
+        header,
+        marks,
+        40,
+        header.l1_table_offset,
+        l1_clusters,
+    ) {
+        return Some(objection);
     }
     let count = u64::from(header.refcount_table_clusters);
     check_clusters(header, marks, 48, header.refcount_table_offset, count)

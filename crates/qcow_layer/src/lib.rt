@@ -10,12 +10,14 @@ mod layer;
 mod looking;
 mod marks;
 mod noting;
+mod objection;
 mod opening;
 mod phases;
 mod reading;
 mod sector;
 mod starting;
 mod tables;
+mod taken;
 mod walking;
 mod work;
 

@@ -11,8 +11,9 @@ use crate::counts::count_sector;
 use crate::item::cluster_bytes;
 use crate::reading::read_sector;
 use crate::sector::word_at;
+use crate::taken::object;
 use crate::work::{Phase, Target, Work};
-use sd_names::{HostId, Refusal, Turn};
+use sd_names::{HostId, Turn};
 use shared_disk::SharedDisk;
 
 // Where all counts are noted, the clusters that the header names are looked at. No call of the disk.
@@ -30,7 +31,7 @@ fn finish_counting(
     let mut work = work;
     let header = work.header;
     match check_header(&header, &mut work.marks) {
-        Some(fault) => Turn::Ended((), Refusal::LayerRefused(target.volume, fault)),
+        Some(objection) => object(target, work, objection),
         None => Turn::More(Phase::Blocks(work, 0)),
     }
 }

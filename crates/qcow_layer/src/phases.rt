@@ -6,6 +6,7 @@ ghost use Rattle.qcow_layer.specs.Phases.{StepCounts, Steps};
 
 use crate::noting::step_counting;
 use crate::starting::{step_begun, step_sized};
+use crate::taken::step_taken;
 use crate::walking::{step_blocks, step_l1, step_l2};
 use crate::work::{Phase, Target, Work};
 use sd_names::{HostId, Turn};
@@ -33,5 +34,6 @@ pub(crate) fn step_phase<D: SharedDisk>(
         Phase::Blocks(work, k) => step_blocks(target, host, disk, work, k),
         Phase::L1(work, i) => step_l1(target, host, disk, work, i),
         Phase::L2(work, i, table, j) => step_l2(target, host, disk, work, i, table, j),
+        Phase::Taken(work, place, block) => step_taken(target, host, disk, work, place, block),
     }
 }

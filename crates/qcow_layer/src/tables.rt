@@ -4,12 +4,12 @@ ghost use Rattle.qcow_layer.specs.Positions.{PassesBlock, PassesBlocks, PassesEn
 
 use crate::item::{block_item, cluster_bytes, l1_item, l2_item};
 use crate::marks::Marks;
+use crate::objection::Objection;
 use crate::sector::word_at;
 use qcow_format::Header;
-use sd_names::LayerFault;
 
 // Entry k of the refcount table.
-fn admit_block(header: &Header, marks: &mut Marks, k: u64, bits: u64) -> Option<LayerFault>
+fn admit_block(header: &Header, marks: &mut Marks, k: u64, bits: u64) -> Option<Objection>
     requires bits { header.now.cluster_bits ≤ 21 }
     requires few { k < 2 ^ 60 }
     ensures { PassesBlock header.now k bits marks.old marks.new result }
@@ -27,15 +27,15 @@ pub(crate) fn check_blocks(
     marks: &mut Marks,
     k: u64,
     sector: &[u8; 512],
-) -> Option<LayerFault>
+) -> Option<Objection>
     requires bits { header.now.cluster_bits ≤ 21 }
     requires few { k < 2 ^ 59 }
     ensures { PassesBlocks header.now k 64 sector.now marks.old marks.new result }
 {
     for j in 0..64 {
         let bits = word_at(sector, j);
-        if let Some(fault) = admit_block(header, marks, k + j as u64, bits) {
-            return Some(fault);
+        if let Some(objection) = admit_block(header, marks, k + j as u64, bits) {
+            return Some(objection);
         }
     }
     None
@@ -58,7 +58,7 @@ fn admit_entry(
     table: u64,
     j: u64,
     bits: u64,
-) -> Option<LayerFault>
+) -> Option<Objection>
     requires bits { header.now.cluster_bits ≤ 21 }
     requires few { i < 2 ^ 32 }
     requires narrow { j < 2 ^ 33 }
@@ -78,7 +78,7 @@ pub(crate) fn check_entries(
     table: u64,
     j: u64,
     sector: &[u8; 512],
-) -> Option<LayerFault>
+) -> Option<Objection>
     requires bits { header.now.cluster_bits ≤ 21 }
     requires few { i < 2 ^ 32 }
     requires narrow { j < 2 ^ 32 }
@@ -86,8 +86,16 @@ pub(crate) fn check_entries(
 {
     for m in 0..64 {
         let bits = word_at(sector, m);
-        if let Some(fault) = admit_entry(header, capacity, marks, i, table, j + m as u64, bits) {
-            return Some(fault);
+        if let Some(objection) = admit_entry(
+            header,
+            capacity,
+            marks,
+            i,
+            table,
+            j + m as u64,
+            bits,
+        ) {
+            return Some(objection);
         }
     }
     None
@@ -99,14 +107,14 @@ pub(crate) fn admit_l1(
     marks: &mut Marks,
     i: u64,
     bits: u64,
-) -> Result<Option<u64>, LayerFault>
+) -> Result<Option<u64>, Objection>
     requires bits { header.now.cluster_bits ≤ 21 }
     requires few { i < 2 ^ 32 }
     ensures { PassesL1 header.now i bits marks.old marks.new result }
 {
     let item = l1_item(header, header.l1_table_offset.saturating_add(8 * i), bits);
     match marks.admit(&item) {
-        Some(fault) => Err(fault),
+        Some(objection) => Err(objection),
         None => Ok(item.name),
     }
 }

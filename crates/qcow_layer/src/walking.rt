@@ -8,8 +8,9 @@ use crate::item::cluster_bytes;
 use crate::reading::read_sector;
 use crate::sector::word_at;
 use crate::tables::{admit_l1, check_blocks, check_entries};
+use crate::taken::object;
 use crate::work::{Phase, Target, Work};
-use sd_names::{HostId, Refusal, Turn};
+use sd_names::{HostId, Turn};
 use shared_disk::SharedDisk;
 
 /// The next 64 entries of the refcount table.
@@ -34,7 +35,7 @@ pub(crate) fn step_blocks<D: SharedDisk>(
     match read_sector(host, disk, target.place, at / 512 * 512) {
         Err(refusal) => Turn::Ended((), refusal),
         Ok(sector) => match check_blocks(&header, &mut work.marks, k, &sector) {
-            Some(fault) => Turn::Ended((), Refusal::LayerRefused(target.volume, fault)),
+            Some(objection) => object(target, work, objection),
             None => Turn::More(Phase::Blocks(work, k + 64)),
         },
     }
@@ -63,7 +64,7 @@ pub(crate) fn step_l1<D: SharedDisk>(
         Ok(sector) => {
             let bits = word_at(&sector, (at % 512 / 8) as usize);
             match admit_l1(&header, &mut work.marks, u64::from(i), bits) {
-                Err(fault) => Turn::Ended((), Refusal::LayerRefused(target.volume, fault)),
+                Err(objection) => object(target, work, objection),
                 Ok(found) => match found {
                     None => Turn::More(Phase::L1(work, i + 1)),
                     Some(table) => Turn::More(Phase::L2(work, i, table, 0)),
@@ -106,7 +107,7 @@ pub(crate) fn step_l2<D: SharedDisk>(
                 &sector,
             );
             match found {
-                Some(fault) => Turn::Ended((), Refusal::LayerRefused(target.volume, fault)),
+                Some(objection) => object(target, work, objection),
                 None => Turn::More(Phase::L2(work, i, table, j + 64)),
             }
         }

@@ -42,4 +42,7 @@ pub(crate) enum Phase {
     L1(Work, u32),
     /// So is an L1 entry, and the entries below an index in the table at a place, which it names.
     L2(Work, u32, u64, u32),
+    /// A cluster at a place isn't free, and the positions before the one that names it are fine. Its refcount block, where
+    /// that is known: the cluster's count tells what is wrong.
+    Taken(Work, u64, Option<u64>),
 }

@@ -5,8 +5,8 @@ use Rattle.qcow_layer.proofs.clusters.check_clusters.Goals as goal
 
 pub returns-in-Some : goal.returns-in-Some
 returns-in-Some c =
-    last_clusters c.args.header.now c.args.at c.args.first (c.loop-k.k + 1) c.args.count c.args.marks.now c.admit_cluster.new.self c.in-Some.fault (omega (arith, c.loop-k-test.true))
-    (next_clusters c.args.header.now c.args.at c.args.first c.loop-k.k c.args.marks.now c.loop-k.marks c.admit_cluster.new.self (Some c.in-Some.fault) c.loop-k.invariant c.in-Some.ensures)
+    last_clusters c.args.header.now c.args.at c.args.first (c.loop-k.k + 1) c.args.count c.args.marks.now c.admit_cluster.new.self c.in-Some.objection (omega (arith, c.loop-k-test.true))
+    (next_clusters c.args.header.now c.args.at c.args.first c.loop-k.k c.args.marks.now c.loop-k.marks c.admit_cluster.new.self (Some c.in-Some.objection) c.loop-k.invariant c.in-Some.ensures)
 
 pub loop-k-preserved : goal.loop-k-preserved
 loop-k-preserved c =

@@ -4,12 +4,12 @@ use Rattle.qcow_layer.proofs.HeaderClusters.{header_refused, l1_clusters_refused
 use Rattle.qcow_layer.proofs.clusters.check_header.Goals as goal
 
 pub returns-in-Some : goal.returns-in-Some
-returns-in-Some c = header_refused c.args.header.now c.args.marks.now c.admit_name.new.self c.in-Some.fault c.in-Some.ensures
+returns-in-Some c = header_refused c.args.header.now c.args.marks.now c.admit_name.new.self c.in-Some.objection c.in-Some.ensures
 
 pub returns-in-Some-check_clusters : goal.returns-in-Some-check_clusters
 returns-in-Some-check_clusters c =
     l1_clusters_refused c.args.header.now ((8 * c.from.result + (c.cluster_bytes-cluster.result - 1)) / c.cluster_bytes-cluster.result)
-    c.args.marks.now c.admit_name.new.self c.check_clusters.new.marks c.in-Some-check_clusters.fault c.in_default.ensures
+    c.args.marks.now c.admit_name.new.self c.check_clusters.new.marks c.in-Some-check_clusters.objection c.in_default.ensures
     (λ file. ap (λ n. (8 * n + (c.cluster_bytes-cluster.result - 1)) / c.cluster_bytes-cluster.result) c.from.ensures ∙ ap (λ n. (8 * c.args.header.now.l1_size + (n - 1)) / n) c.cluster_bytes-cluster.ensures)
     c.in-Some-check_clusters.ensures
 

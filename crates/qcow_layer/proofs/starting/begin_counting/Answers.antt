@@ -12,4 +12,4 @@ pub returns-in-Ok-clause-next : goal.returns-in-Ok-clause-next
 returns-in-Ok-clause-next c host count sectors d seen is long e named =
     header_fine c.args.target c.args.length
     (record { header = c.args.header; parent = c.args.parent; marks = c.in-Ok.marks; low = _; high = _; few = _; l1_aligned = _; table_aligned = _ })
-    c.if-header-target.false c.in-Ok.ensures.size (c.in-Ok.ensures.cluster ∙ c.cluster_bytes.ensures) c.in-Ok.ensures.used c.in-Ok.ensures.counted host count sectors d seen is long e named
+    c.if-header-target.false c.in-Ok.ensures.size (c.in-Ok.ensures.cluster ∙ c.cluster_bytes.ensures) c.in-Ok.ensures.free host count sectors d seen is long e named

@@ -5,7 +5,7 @@ use Rattle.qcow_layer.proofs.tables.admit_l1.Goals as goal
 
 pub returns-in-Some : goal.returns-in-Some
 returns-in-Some c =
-    l1_refused c.args.header.now c.args.i c.saturating_add.result c.args.bits c.args.marks.now c.admit.new.self (item_of c.l1_item-item.result) c.in-Some.fault
+    l1_refused c.args.header.now c.args.i c.saturating_add.result c.args.bits c.args.marks.now c.admit.new.self (item_of c.l1_item-item.result) c.in-Some.objection
     c.in-Some.ensures c.l1_item-item.ensures.item (λ low. omega (arith, low, c.saturating_add.ensures)) c.l1_item-item.ensures.aligned
 
 pub returns-in-None : goal.returns-in-None

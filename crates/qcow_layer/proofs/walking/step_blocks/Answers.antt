@@ -1,6 +1,9 @@
-use Rattle.std.proofs.Common.{ℕ, ◌≡◌, ◌*◌, ◌/◌, ◌^◌, ◌<◌, ◌≤◌, subst, arith}
+use Rattle.std.proofs.Common.{ℕ, ◌≡◌, ◌*◌, ◌/◌, ◌^◌, ◌<◌, ◌≤◌, subst, sym, arith}
+use Rattle.qcow_layer.specs.Left.{Falls}
+use Rattle.qcow_layer.specs.Phases.{Steps}
 use Rattle.qcow_layer.specs.declared.work.Phase.TheVariants.{Blocks}
-use Rattle.qcow_layer.proofs.Walks.{read_refused, blocks_end, blocks_faulted, blocks_more, few_entries}
+use Rattle.qcow_layer.proofs.Objects.{before_keeping, more_blocks, objected_counts, objected_falls}
+use Rattle.qcow_layer.proofs.Walks.{read_refused, blocks_end, blocks_objected, blocks_more, few_entries}
 use Rattle.qcow_layer.proofs.walking.step_blocks.Goals as goal
 
 low_index : (clusters bits k n c : ℕ) → n ≡ clusters → c ≡ 2 ^ bits → k < n * (c / 8) → k < clusters * (2 ^ bits / 8)
@@ -26,10 +29,20 @@ returns-in-Some-clause-content g c d tells =
     let call = c.in-Ok.ensures.content d tells in (
       call.0,
       call.1,
-      blocks_faulted c.args.target c.args.host c.args.work c.check_blocks.new.marks c.args.k c.saturating_add-at.result c.in-Ok.sector d call.0
+      subst (λ r. Steps c.args.target c.args.host (Blocks c.args.work c.args.k) r d call.0) (sym c.object.ensures)
+          (blocks_objected c.args.target c.args.host c.args.work c.check_blocks.new.marks c.args.k c.saturating_add-at.result c.in-Ok.sector d call.0
           (low_index c.args.work.header.refcount_table_clusters c.args.work.header.cluster_bits c.args.k c.from.result c.cluster_bytes.result c.from.ensures c.cluster_bytes.ensures c.if-k-entries.false)
-          (λ low. omega (arith, low, c.saturating_add-at.ensures)) call.2.1 c.in-Some.fault c.in-Some.ensures call.2.0,
+          (λ low. omega (arith, low, c.saturating_add-at.ensures)) call.2.1 _ _ _ _ _ c.in-Some.objection c.in-Some.ensures call.2.0),
     )
+
+pub returns-in-Some-clause-counts : goal.returns-in-Some-clause-counts
+returns-in-Some-clause-counts g c = objected_counts c.args.target _ c.in-Some.objection _ _ _ _ _ c.object.ensures c.in-Ok.ensures.one.one_call c.in-Ok.ensures.one.no_less
+
+pub returns-in-Some-clause-falls : goal.returns-in-Some-clause-falls
+returns-in-Some-clause-falls g c =
+    subst (λ r. Falls (Blocks c.args.work c.args.k) r) (sym c.object.ensures)
+    (objected_falls c.args.target (Blocks c.args.work c.args.k) _ c.in-Some.objection
+    (λ h size w. (before_keeping c.args.work c.check_blocks.new.marks c.args.work.low c.args.work.high c.args.work.few c.args.work.l1_aligned c.args.work.table_aligned c.in-Some.ensures.keeps h size w, more_blocks h c.args.k)))
 
 pub returns-in-None-clause-content : goal.returns-in-None-clause-content
 returns-in-None-clause-content g c d tells =
