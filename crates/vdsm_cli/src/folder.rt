@@ -3,7 +3,7 @@ ghost use Rattle.std.specs.Prelude.{◌≡◌, ◌≢◌, ◌≤◌, ◌++◌, l
 ghost use Rattle.shared_disk.specs.Calls.{parent_of};
 ghost use Rattle.vdsm_cli.specs.Answers.{IsNoFile, IsNoFileOrExists, IsNoFileOrOutside, IsNoFileOrNotEmpty};
 ghost use Rattle.vdsm_cli.specs.Flushed.{flushed_dir, flushed_place};
-ghost use Rattle.vdsm_cli.specs.Path.{path_below};
+ghost use Rattle.vdsm_cli.specs.Path.{folder_named, path_below};
 ghost use Rattle.vdsm_cli.specs.Listing.{AnswersAbove};
 ghost use Rattle.vdsm_cli.specs.Opened.{written_at, written_length};
 
@@ -37,7 +37,9 @@ pub(crate) struct Folder<R> {
 
 impl<R: Files + Drop> Folder<R> {
     /// The folder at the path `root`, or the current folder where that is empty. It is not looked at yet.
-    pub(crate) fn new(rt: R, alloc: Global, root: &str) -> Result<Folder<R>, NoMemory> {
+    pub(crate) fn new(rt: R, alloc: Global, root: &str) -> Result<Folder<R>, NoMemory>
+        ensures root { IfOk result (λ folder. string_bytes folder.root ≡ folder_named root.now) }
+    {
         let root = if root.is_empty() { "." } else { root };
         let room = root.len().saturating_add(MOST_BELOW);
         match (

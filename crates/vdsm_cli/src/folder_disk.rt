@@ -2,7 +2,8 @@
 ghost use Rattle.std.specs.Prelude.{◌≡◌, ◌↔◌, ◌+◌, ◌-◌, ◌^◌, min, IfOk, IsOk, Err};
 ghost use Rattle.shared_disk.specs.declared.disk.DiskAnswer.{DiskAnswer};
 ghost use Rattle.shared_disk.specs.Calls.{HasCause};
-ghost use Rattle.vdsm_cli.specs.Counts.{disk_faults, disk_calls};
+ghost use Rattle.vdsm_cli.specs.Counts.{disk_faults, disk_calls, disk_root};
+ghost use Rattle.vdsm_cli.specs.Path.{folder_named};
 
 use crate::folder::Folder;
 use sd_names::{Dir, HostId, Name, NoMemory, Place};
@@ -24,6 +25,7 @@ impl<R: Files + Drop> FolderDisk<R> {
     pub fn new(rt: R, alloc: Global, root: &str) -> Result<FolderDisk<R>, NoMemory>
         ensures faults { IfOk result (λ disk. disk_faults disk ≡ 0) }
         ensures calls { IfOk result (λ disk. disk_calls disk ≡ 0) }
+        ensures root { IfOk result (λ disk. disk_root disk ≡ folder_named root.now) }
     {
         match Folder::new(rt, alloc, root) {
             Ok(folder) => Ok(FolderDisk {
