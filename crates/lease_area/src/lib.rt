@@ -16,6 +16,3 @@ pub use scan::Scan;
 pub use scanned::Scanned;
 pub use sector::{Kind, LeaseRecord, Sector};
 pub use taking::take;
-
-#[cfg(test)]
-mod tests;

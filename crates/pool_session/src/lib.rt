@@ -15,8 +15,6 @@ mod session;
 mod stage;
 mod status;
 mod stream;
-#[cfg(test)]
-mod tests;
 mod words;
 
 pub use memory::{MemorySink, MemorySource};

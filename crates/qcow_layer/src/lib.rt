@@ -24,6 +24,3 @@ mod work;
 pub use layer::Layer;
 pub use looking::{Looked, Looking};
 pub use opening::Opening;
-
-#[cfg(test)]
-mod tests;

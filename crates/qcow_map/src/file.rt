@@ -4,7 +4,7 @@ ghost use Rattle.std.specs.Prelude.{◌≡◌, ◌%◌, OnOk, length};
 use qcow_format::Header;
 use qcow_layer::{Layer, Opening};
 use sd_names::{Dir, HostId, Id, Name, NoMemory, Place, Refusal, Turn};
-use shared_disk::Memory;
+use memory_disk::Memory;
 use std::alloc::{AllocError, Global};
 
 /// The longest file that is taken, in bytes. It bounds the memory: the file, the disk's copy of it, and the room that the

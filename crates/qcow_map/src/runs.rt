@@ -3,7 +3,7 @@ use crate::run::{Run, add_run};
 use qcow_format::Entry;
 use qcow_layer::{Layer, Looked, Looking};
 use sd_names::{HostId, LayerFault, Refusal, Turn};
-use shared_disk::Memory;
+use memory_disk::Memory;
 use std::alloc::Global;
 
 // The virtual disk: its size, and that of its clusters, in bytes.

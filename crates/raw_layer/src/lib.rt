@@ -8,6 +8,3 @@ mod write;
 pub use raw::Raw;
 pub use read::RawRead;
 pub use write::RawWrite;
-
-#[cfg(test)]
-mod tests;

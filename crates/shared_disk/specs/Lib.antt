@@ -3,16 +3,7 @@ pub mod Calls
 pub mod Limits
 pub mod Refusal
 pub mod Places
-pub mod Sectors
-pub mod Store
-pub mod Files
-pub mod Listing
-pub mod Settled
-pub mod Held
-pub mod Parts
 pub mod Crash
 pub mod Changes
 pub mod SectorCalls
 pub mod NameCalls
-pub mod Placed
-pub mod Turns

@@ -7,6 +7,3 @@ mod replace;
 
 pub use read::{LONGEST, ROOM, Text, read_text};
 pub use replace::{Replace, Stage};
-
-#[cfg(test)]
-mod tests;

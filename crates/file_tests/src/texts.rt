@@ -1,0 +1,186 @@
+// What no clause says: whole replacements over a disk in memory, and a disk that fails and a host that goes down at each
+// of their calls.
+use memory_disk::{Memory, Pick};
+use sd_names::{Dir, HostId, Id, Name, Place, Refusal, Turn};
+use shared_disk::{DiskAnswer, SharedDisk};
+use std::test::Fail;
+use whole_file::{LONGEST, ROOM, Replace, Text, read_text};
+
+const DIR: Dir = Dir::DomMd(Id::ZERO);
+
+const TARGET: Place = Place {
+    dir: DIR,
+    name: Name::Metadata,
+};
+
+const VOLATILE: Place = Place {
+    dir: DIR,
+    name: Name::MetadataNew,
+};
+
+const OLD: &[u8] = b"CLASS=Data\nEOF\n";
+
+const NEW: &[u8] = &[b'n'; 700];
+
+// How a replacement ended.
+#[derive(Clone, Copy, Debug, PartialEq, Eq)]
+enum End {
+    // After so many steps.
+    Done(u8),
+    // By a refusal with this number, in the step with this number from 1.
+    Refused(u8, u16),
+}
+
+fn make_folders(disk: &mut Memory, host: HostId) -> Result<(), DiskAnswer> {
+    disk.make_dir(host, Dir::Domain(Id::ZERO))?;
+    disk.make_dir(host, DIR)
+}
+
+fn replace(disk: &mut Memory, host: HostId, text: &[u8]) -> End {
+    if text.len() > LONGEST {
+        return End::Done(0);
+    }
+    let mut work = Replace::begin(TARGET, VOLATILE.name, text.len());
+    for step in 1..10 {
+        match work.step(host, disk, text) {
+            Turn::More(next) => work = next,
+            Turn::Done(()) => return End::Done(step),
+            Turn::Ended((), refusal) => return End::Refused(step, refusal.number()),
+        }
+    }
+    End::Done(0)
+}
+
+// Whether the target reads as this text.
+fn reads(disk: &mut Memory, host: HostId, text: &[u8]) -> bool {
+    let mut room = [0; ROOM];
+    match read_text(host, disk, TARGET, &mut room) {
+        Ok(Text::Bytes(length)) => room[..length] == text[..],
+        _ => false,
+    }
+}
+
+#[test]
+fn a_text_is_replaced_and_read(rt: HostRuntime) -> Result<(), Fail> {
+    let host = HostId::new(1).ok_or("no host")?;
+    let mut disk = Memory::new(rt.alloc(), Vec::new(rt.alloc()), Vec::new(rt.alloc()), 100)?;
+    make_folders(&mut disk, host)?;
+    let mut room = [0; ROOM];
+    assert!(rt;
+        matches!(
+            read_text(host, &mut disk, TARGET, &mut room),
+            Ok(Text::Absent)
+        )
+    );
+    let longest = [b'x'; LONGEST];
+    for (text, steps) in [(OLD, 5), (NEW, 5), (&[][..], 4), (&longest[..], 5)] {
+        assert!(rt;
+            replace(&mut disk, host, text) == End::Done(steps),
+            "{} bytes",
+            text.len()
+        );
+        assert!(rt; reads(&mut disk, host, text), "{} bytes", text.len());
+        assert!(rt; disk.length(host, VOLATILE) == Err(DiskAnswer::NoFile));
+    }
+    Ok(())
+}
+
+#[test]
+fn a_leftover_file_is_removed_first(rt: HostRuntime) -> Result<(), Fail> {
+    let host = HostId::new(1).ok_or("no host")?;
+    let mut disk = Memory::new(rt.alloc(), Vec::new(rt.alloc()), Vec::new(rt.alloc()), 100)?;
+    make_folders(&mut disk, host)?;
+    disk.create(host, VOLATILE, 1024)?;
+    disk.write_at(host, VOLATILE, 0, &[7; 1024])?;
+    assert!(rt; replace(&mut disk, host, OLD) == End::Done(5));
+    assert!(rt; reads(&mut disk, host, OLD));
+    Ok(())
+}
+
+#[test]
+fn long_texts_are_told(rt: HostRuntime) -> Result<(), Fail> {
+    let host = HostId::new(1).ok_or("no host")?;
+    let mut disk = Memory::new(rt.alloc(), Vec::new(rt.alloc()), Vec::new(rt.alloc()), 100)?;
+    make_folders(&mut disk, host)?;
+    disk.create(host, TARGET, 9216)?;
+    disk.write_at(host, TARGET, 0, &[b'x'; 9216])?;
+    let mut room = [0; ROOM];
+    for (sector, want) in [
+        (17u8, Text::Long),
+        (16, Text::Bytes(8192)),
+        (1, Text::Bytes(512)),
+        (0, Text::Bytes(0)),
+    ] {
+        disk.write_at(host, TARGET, 512 * u64::from(sector), &[0; 512])?;
+        let text = read_text(host, &mut disk, TARGET, &mut room);
+        assert!(rt;
+            matches!(text, Ok(text) if text == want),
+            "zeros in sector {sector}"
+        );
+    }
+    Ok(())
+}
+
+#[test]
+fn the_target_is_old_or_new_at_each_crash(rt: HostRuntime) -> Result<(), Fail> {
+    let host = HostId::new(1).ok_or("no host")?;
+    let other = HostId::new(2).ok_or("no host")?;
+    for pick in [Pick::Old, Pick::New, Pick::Byte(0x55)] {
+        // Two calls make the folders, five the old text, and each of the next five fails in its turn.
+        for failing in 0..5 {
+            let mut picks = Vec::new(rt.alloc());
+            picks.push(pick)?;
+            let mut list = Vec::new(rt.alloc());
+            list.push(7 + failing)?;
+            let mut disk = Memory::new(rt.alloc(), picks, list, 100)?;
+            make_folders(&mut disk, host)?;
+            assert!(rt; replace(&mut disk, host, OLD) == End::Done(5));
+            let step = failing as u8 + 1;
+            assert!(rt;
+                replace(&mut disk, host, NEW) == End::Refused(step, 120),
+                "call {failing}"
+            );
+            disk.down(host);
+            assert!(rt; reads(&mut disk, other, OLD), "{pick:?} at call {failing}");
+            assert!(rt;
+                replace(&mut disk, other, NEW) == End::Done(5),
+                "again after {failing}"
+            );
+            assert!(rt; reads(&mut disk, other, NEW));
+        }
+    }
+    Ok(())
+}
+
+#[test]
+fn what_was_done_survives_the_host(rt: HostRuntime) -> Result<(), Fail> {
+    let host = HostId::new(1).ok_or("no host")?;
+    let other = HostId::new(2).ok_or("no host")?;
+    for pick in [Pick::Old, Pick::New, Pick::Byte(0x55)] {
+        let mut picks = Vec::new(rt.alloc());
+        picks.push(pick)?;
+        let mut disk = Memory::new(rt.alloc(), picks, Vec::new(rt.alloc()), 100)?;
+        make_folders(&mut disk, host)?;
+        assert!(rt; replace(&mut disk, host, NEW) == End::Done(5));
+        disk.down(host);
+        assert!(rt; reads(&mut disk, other, NEW), "{pick:?}");
+    }
+    Ok(())
+}
+
+#[test]
+fn a_missing_folder_and_a_fault_are_refused(rt: HostRuntime) -> Result<(), Fail> {
+    let host = HostId::new(1).ok_or("no host")?;
+    let mut list = Vec::new(rt.alloc());
+    list.push(2)?;
+    let mut disk = Memory::new(rt.alloc(), Vec::new(rt.alloc()), list, 100)?;
+    assert!(rt; replace(&mut disk, host, NEW) == End::Refused(2, 122));
+    let mut room = [0; ROOM];
+    assert!(rt;
+        matches!(
+            read_text(host, &mut disk, TARGET, &mut room),
+            Err(Refusal::DiskFault(1))
+        )
+    );
+    Ok(())
+}

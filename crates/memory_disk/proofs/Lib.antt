@@ -1,0 +1,15 @@
+pub mod Causes
+pub mod Limits
+pub mod Contents
+pub mod Copies
+pub mod Folders
+pub mod Listed
+pub mod Placing
+pub mod PutSectors
+pub mod Removed
+pub mod Renamed
+pub mod Settling
+pub mod Slots
+pub mod Synced
+pub mod Within
+pub mod Pieces

@@ -1,0 +1,9 @@
+pub mod Store
+pub mod Files
+pub mod Sectors
+pub mod Listing
+pub mod Settled
+pub mod Held
+pub mod Parts
+pub mod Turns
+pub mod Placed

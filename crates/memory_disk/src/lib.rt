@@ -1,0 +1,20 @@
+//! Shared folders in memory: disks that keep to the trait of a shared disk, with room for a fixed count of units.
+#![tactic(auto)]
+
+mod counts;
+mod entry;
+mod files;
+mod honest;
+mod listing;
+mod log;
+mod memory;
+mod picks;
+mod sector_map;
+mod store;
+
+pub use honest::Honest;
+pub use memory::Memory;
+pub use picks::Pick;
+
+#[cfg(test)]
+mod tests;

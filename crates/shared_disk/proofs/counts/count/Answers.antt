@@ -1,5 +1,0 @@
-use Rattle.std.proofs.Common.{arith}
-use Rattle.shared_disk.proofs.counts.count.Goals as goal
-
-pub returns-in-Err-Failed-clause-no_less : goal.returns-in-Err-Failed-clause-no_less
-returns-in-Err-Failed-clause-no_less c = omega (arith, c.bump.ensures, c.requires)

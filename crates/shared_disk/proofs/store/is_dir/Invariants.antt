@@ -1,6 +1,0 @@
-use Rattle.std.proofs.Common.{◌≡◌, drop}
-use Rattle.shared_disk.specs.Store.{has_dir}
-use Rattle.shared_disk.proofs.store.is_dir.Given as goal
-
-abbrev pub invariant-loop-made : goal.invariant-loop-made
-invariant-loop-made l = has_dir l.dirs l.dir ≡ has_dir (drop l.made-index l.dirs) l.dir
