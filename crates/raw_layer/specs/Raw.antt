@@ -1,5 +1,5 @@
 -- A raw volume's file: its bytes, then zeros; and what the steps of a read and of a write do.
-use Rattle.std.specs.Prelude.{◌≡◌, ◌⊎◌, ℕ, ◌+◌, ◌*◌, ◌/◌, ◌<◌, ◌≤◌, List, length, Result, MatchResult, Some, None, nat_le, MatchBool}
+use Rattle.std.specs.Prelude.{◌≡◌, ◌⊎◌, ℕ, ◌+◌, ◌*◌, ◌/◌, ◌<◌, ◌≤◌, List, length, Result, Some, None, nat_le, MatchBool}
 use Rattle.sd_names.specs.declared.place.Place.{Place}
 use Rattle.sd_names.specs.declared.refusal.Refusal.{Refusal}
 use Rattle.sd_names.specs.declared.refusal.Refusal.TheVariants.{DiskFault, NoRoom}
@@ -8,15 +8,16 @@ use Rattle.sd_names.specs.declared.turn.Turn.TheVariants.{Done, Ended}
 use Rattle.sd_names.specs.Turn.{MatchTurn}
 use Rattle.shared_disk.specs.Content.{Content, File, Sees, sector_of, zero_sector}
 use Rattle.shared_disk.specs.Calls.{IsSame, WriteAt, Syncs, HasLength}
-use Rattle.shared_disk.specs.Refusal.{IsDiskRefusal, refusal_of}
+use Rattle.shared_disk.specs.Refusal.{refusal_of}
+use Rattle.shared_disk.specs.Step.{GoesOn, IsDiskRefusal, TurnFollows}
 use Rattle.shared_disk.specs.declared.disk.DiskAnswer.{DiskAnswer}
 use Rattle.shared_disk.specs.declared.disk.DiskAnswer.TheVariants.{NoFile}
 use Rattle.raw_layer.specs.Place.{volume_of}
 use Rattle.raw_layer.specs.declared.raw.Raw.{Raw}
 use Rattle.raw_layer.specs.declared.read.RawRead.{RawRead}
 use Rattle.raw_layer.specs.declared.write.RawWrite.{RawWrite}
-use Rattle.raw_layer.specs.declared.write.State.{State}
-use Rattle.raw_layer.specs.declared.write.State.TheVariants.{Begun, Fits, Written}
+use Rattle.raw_layer.specs.declared.write.Stage.{Stage}
+use Rattle.raw_layer.specs.declared.write.Stage.TheVariants.{Begun, Fits, Written}
 
 -- a raw volume: where its file is, its capacity, and a length that its file had, in bytes
 abbrev pub place_of : Raw → Place
@@ -35,15 +36,15 @@ read_place r = r.place
 abbrev pub read_from : RawRead → ℕ
 read_from r = r.at
 
--- a write: of which file, from which byte on, and what is known
+-- a write: of which file, from which byte on, and how far it is
 abbrev pub write_place : RawWrite → Place
 write_place w = w.place
 
 abbrev pub write_from : RawWrite → ℕ
 write_from w = w.at
 
-abbrev pub state_of : RawWrite → State
-state_of w = w.state
+abbrev pub stage_of : RawWrite → Stage
+stage_of w = w.stage
 
 -- the sector as it reads to the host: the file's, and zeros past its end
 abbrev pub ReadsSector : ℕ → File → ℕ → List ℕ → Type 0
@@ -54,10 +55,6 @@ abbrev pub ReadsFile : Content → ℕ → Place → ℕ → List ℕ → Type 0
 ReadsFile d host place at part =
     (f : File) × (d.file place ≡ Some f) × ((k : ℕ) → 512 * (k + 1) ≤ length part → ReadsSector host f (at + k) (sector_of part k))
 
--- a read takes one step
-abbrev pub IsLast : Turn RawRead (Unit {0}) (Unit {0}) → Type 0
-IsLast turn = MatchTurn turn (λ _. ⊥) (λ _. Unit {0}) (λ _ _. Unit {0})
-
 -- The one step of a read. The content stays as it was; `faults` is the disk's count after it.
 abbrev pub ReadSteps : RawRead → ℕ → ℕ → List ℕ → Turn RawRead (Unit {0}) (Unit {0}) → Content → Content → Type 0
 ReadSteps r host faults part turn d e = IsSame d e × MatchTurn turn
@@ -65,66 +62,61 @@ ReadSteps r host faults part turn d e = IsSame d e × MatchTurn turn
     (λ _. ReadsFile d host (read_place r) (read_from r / 512) part)
     (λ _ refusal. (refusal ≡ DiskFault faults) ⊎ ((refusal ≡ refusal_of NoFile faults) × (d.file (read_place r) ≡ None)))
 
--- the write goes on with the same place in this state
-pub record GoesOn (w next : RawWrite) (state : State) : Type 0 where
+-- a write of the same file, from the same byte on
+pub record IsSameWrite (w next : RawWrite) : Type 0 where
   pub place : write_place next ≡ write_place w
   pub from : write_from next ≡ write_from w
-  pub now_in : state_of next ≡ state
 
--- the step hands back more to do in this state
-abbrev pub IsMore : RawWrite → State → Turn RawWrite (Unit {0}) (Unit {0}) → Type 0
-IsMore w state turn = MatchTurn turn (λ next. GoesOn w next state) (λ _. ⊥) (λ _ _. ⊥)
+-- the same write in another stage
+pub record IsAt (w : RawWrite) (stage : Stage) (next : RawWrite) : Type 0 where
+  pub same : IsSameWrite w next
+  pub stage : stage_of next ≡ stage
+
+-- how many more steps a write takes at the most
+abbrev pub left_of : Stage → ℕ
+left_of (Begun known) = 3
+left_of Fits = 2
+left_of Written = 1
+
+abbrev pub write_left : RawWrite → ℕ
+write_left w = left_of (stage_of w)
 
 -- one `write_at` of the part, whose answer decides the turn
 abbrev pub WritesPart : RawWrite → ℕ → ℕ → List ℕ → Turn RawWrite (Unit {0}) (Unit {0}) → Content → Content → Type 0
 WritesPart w host faults part turn d e =
     (answer : Result (Unit {0}) DiskAnswer) × WriteAt d host (write_place w) (write_from w / 512) part answer e
-    × MatchResult answer (λ _. IsMore w Written turn) (λ a. turn ≡ Ended tt (refusal_of a faults))
+    × TurnFollows answer faults turn (λ _. GoesOn (IsAt w Written) turn)
 
 -- one sync of the file, whose answer decides the turn
 abbrev pub SyncsFile : RawWrite → ℕ → ℕ → Turn RawWrite (Unit {0}) (Unit {0}) → Content → Content → Type 0
 SyncsFile w host faults turn d e =
-    (answer : Result (Unit {0}) DiskAnswer) × Syncs d host (write_place w) answer e
-    × MatchResult answer (λ _. turn ≡ Done tt) (λ a. turn ≡ Ended tt (refusal_of a faults))
+    (answer : Result (Unit {0}) DiskAnswer) × Syncs d host (write_place w) answer e × TurnFollows answer faults turn (λ _. turn ≡ Done tt)
 
 -- The file's length is asked: a part that ends past it is refused for want of room, any other is written next.
 abbrev pub AsksLength : RawWrite → ℕ → ℕ → Turn RawWrite (Unit {0}) (Unit {0}) → Content → Content → Type 0
 AsksLength w faults count turn d e =
     (answer : Result ℕ DiskAnswer) × HasLength d (write_place w) answer e
-    × MatchResult answer
-    (λ n. MatchBool (nat_le (write_from w + count) n) (IsMore w Fits turn) (turn ≡ Ended tt (NoRoom (volume_of (write_place w).name) n (write_from w + count))))
-    (λ a. turn ≡ Ended tt (refusal_of a faults))
+    × TurnFollows answer faults turn (λ n. MatchBool (nat_le (write_from w + count) n)
+    (GoesOn (IsAt w Fits) turn)
+    (turn ≡ Ended tt (NoRoom (volume_of (write_place w).name) n (write_from w + count))))
 
--- The step of a write, by its state: what lies within the known length is written at once.
-abbrev pub WriteSteps : State → RawWrite → ℕ → ℕ → List ℕ → Turn RawWrite (Unit {0}) (Unit {0}) → Content → Content → Type 0
+-- The step of a write, by its stage: what lies within the known length is written at once.
+abbrev pub WriteSteps : Stage → RawWrite → ℕ → ℕ → List ℕ → Turn RawWrite (Unit {0}) (Unit {0}) → Content → Content → Type 0
 WriteSteps (Begun known) w host faults part turn d e =
     MatchBool (nat_le (write_from w + length part) known) (WritesPart w host faults part turn d e) (AsksLength w faults (length part) turn d e)
 WriteSteps Fits w host faults part turn d e = WritesPart w host faults part turn d e
 WriteSteps Written w host faults part turn d e = SyncsFile w host faults turn d e
 
--- how many more steps a write takes at the most
-abbrev pub left_of : State → ℕ
-left_of (Begun known) = 3
-left_of Fits = 2
-left_of Written = 1
+-- a part that ends at `end` lies past the length that was known and past the one that the file has
+pub record LacksRoom (w : RawWrite) (known end : ℕ) (refusal : Refusal) : Type 0 where
+  pub asked : known < end
+  pub room : ℕ
+  pub short : room < end
+  pub is : refusal ≡ NoRoom (volume_of (write_place w).name) room end
 
--- the next state of a write is of the same place, and nearer to its end
-pub record Nears (w next : RawWrite) : Type 0 where
-  pub place : write_place next ≡ write_place w
-  pub from : write_from next ≡ write_from w
-  pub falls : left_of (state_of next) < left_of (state_of w)
-
--- whatever the disk tells, a write goes on with its place and comes to its end
-abbrev pub GoesToEnd : RawWrite → Turn RawWrite (Unit {0}) (Unit {0}) → Type 0
-GoesToEnd w turn = MatchTurn turn (λ next. Nears w next) (λ _. Unit {0}) (λ _ _. Unit {0})
-
--- a refusal of a raw file: for want of room, or one that stands for an answer of the disk
-abbrev pub IsCause : ℕ → ℕ → Refusal → Type 0
-IsCause before after (NoRoom v room wanted) = Unit {0}
-IsCause before after refusal = IsDiskRefusal before after refusal
-
--- what a step does to the counts of the disk, whatever the disk tells
-pub record Counts {T : Type 0} (faults faults' calls calls' : ℕ) (turn : Turn T (Unit {0}) (Unit {0})) : Type 0 where
-  pub one_call : calls' ≤ calls + 1
-  pub no_less : faults ≤ faults'
-  pub cause : MatchTurn turn (λ _. Unit {0}) (λ _. Unit {0}) (λ _ refusal. IsCause faults faults' refusal)
+-- The refusals of a step of a write of a part that ends at `end`: those that stand for an answer of the disk and, in the
+-- step that asks for the length, the want of room.
+abbrev pub IsWriteRefusal : Stage → RawWrite → ℕ → Refusal → Type 0
+IsWriteRefusal (Begun known) w end refusal = IsDiskRefusal refusal ⊎ LacksRoom w known end refusal
+IsWriteRefusal Fits w end refusal = IsDiskRefusal refusal
+IsWriteRefusal Written w end refusal = IsDiskRefusal refusal

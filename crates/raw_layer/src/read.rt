@@ -1,6 +1,7 @@
 // Reading a part of a raw volume, by one call of the disk.
 ghost use Rattle.std.specs.Prelude.{◌≡◌, ◌-◌, ◌%◌, ◌≤◌, ◌++◌, length, take, replicate};
 ghost use Rattle.shared_disk.specs.Calls.{IsAligned, IsPiece, Told};
+ghost use Rattle.shared_disk.specs.Step.{EndsOnlyBy, IsDiskRefusal, IsLast, StepCounts};
 
 use crate::Raw;
 use sd_names::{HostId, Place, Turn};
@@ -15,7 +16,7 @@ pub struct RawRead {
 }
 
 impl RawRead {
-    ghost use Rattle.raw_layer.specs.Raw.{ReadSteps, IsLast, Counts, place_of, read_place, read_from};
+    ghost use Rattle.raw_layer.specs.Raw.{ReadSteps, place_of, read_place, read_from};
 
     /// A read from the offset `at` on, in bytes and a multiple of 512.
     pub fn begin(raw: &Raw, at: u64) -> RawRead
@@ -37,7 +38,8 @@ impl RawRead {
         part: &mut [u8],
     ) -> Turn<RawRead, (), ()>
         requires { IsPiece (length part.old) }
-        ensures counts { Counts (D.faults disk.old) (D.faults disk.new) (D.calls disk.old) (D.calls disk.new) result }
+        ensures counts { StepCounts (D.faults disk.old) (D.faults disk.new) (D.calls disk.old) (D.calls disk.new) result }
+        ensures refusals { EndsOnlyBy IsDiskRefusal result }
         ensures last { IsLast result }
         ensures content { Told (D.content disk.old) (D.content disk.new) (ReadSteps self host (D.faults disk.new) part.new result) }
     {

@@ -1,7 +1,9 @@
 // Writing a part of a raw volume: the length is asked where it isn't known, then the part is written, then synced.
-ghost use Rattle.std.specs.Prelude.{◌≡◌, ◌+◌, ◌%◌, ◌<◌, ◌^◌, length};
+ghost use Rattle.std.specs.Prelude.{◌≡◌, ◌⊎◌, ℕ, ◌+◌, ◌%◌, ◌<◌, ◌^◌, length};
 ghost use Rattle.shared_disk.specs.Calls.{IsAligned, IsPiece, Told};
 ghost use Rattle.sd_names.specs.Turn.{MatchTurn};
+ghost use Rattle.sd_names.specs.declared.refusal.Refusal.TheVariants.{NoRoom};
+ghost use Rattle.shared_disk.specs.Step.{EndsOnlyBy, IsDiskRefusal, NearsEnd, StepCounts};
 ghost use Rattle.raw_layer.specs.Place.{volume_of};
 
 use crate::Raw;
@@ -10,7 +12,7 @@ use shared_disk::{SharedDisk, refusal_for};
 
 /// What is known in the course of a write.
 #[derive(Clone, Copy, Debug)]
-pub enum State {
+pub enum Stage {
     /// The file had at least this length, in bytes.
     Begun(u64),
     /// The part lies within the file.
@@ -24,24 +26,24 @@ pub enum State {
 pub struct RawWrite {
     place: Place,
     at: u64,
-    state: State,
+    stage: Stage,
     ghost aligned: { at % 512 ≡ 0 },
 }
 
 impl RawWrite {
-    ghost use Rattle.raw_layer.specs.Raw.{WriteSteps, GoesToEnd, GoesOn, WritesPart, AsksLength, SyncsFile, Counts, place_of, known_length_of, write_place, write_from, state_of};
+    ghost use Rattle.raw_layer.specs.Raw.{AsksLength, IsAt, IsSameWrite, IsWriteRefusal, SyncsFile, WriteSteps, WritesPart, known_length_of, place_of, stage_of, write_from, write_left, write_place};
 
     /// A write from the offset `at` on, in bytes and a multiple of 512.
     pub fn begin(raw: &Raw, at: u64) -> RawWrite
         requires { IsAligned at }
         ensures place { write_place result ≡ place_of raw.now }
         ensures at { write_from result ≡ at }
-        ensures state { state_of result ≡ State.Begun (known_length_of raw.now) }
+        ensures stage { stage_of result ≡ Stage.Begun (known_length_of raw.now) }
     {
         RawWrite {
             place: raw.place,
             at,
-            state: State::Begun(raw.length),
+            stage: Stage::Begun(raw.length),
         }
     }
 
@@ -55,35 +57,36 @@ impl RawWrite {
     ) -> Turn<RawWrite, (), ()>
         requires piece { IsPiece (length part.now) }
         requires end { write_from self + length part.now < 2 ^ 64 }
-        ensures counts { Counts (D.faults disk.old) (D.faults disk.new) (D.calls disk.old) (D.calls disk.new) result }
-        ensures keeps { GoesToEnd self result }
-        ensures content { Told (D.content disk.old) (D.content disk.new) (WriteSteps (state_of self) self host (D.faults disk.new) part.now result) }
+        ensures counts { StepCounts (D.faults disk.old) (D.faults disk.new) (D.calls disk.old) (D.calls disk.new) result }
+        ensures refusals { EndsOnlyBy (IsWriteRefusal (stage_of self) self (write_from self + length part.now)) result }
+        ensures keeps { NearsEnd (IsSameWrite self) write_left (write_left self) result }
+        ensures content { Told (D.content disk.old) (D.content disk.new) (WriteSteps (stage_of self) self host (D.faults disk.new) part.now result) }
     {
-        match self.state {
-            State::Begun(known) => {
+        match self.stage {
+            Stage::Begun(known) => {
                 if self.at + part.len() as u64 <= known {
                     self.write(host, disk, part)
                 } else {
                     self.ask(host, disk, part.len() as u64)
                 }
             }
-            State::Fits => self.write(host, disk, part),
-            State::Written => self.sync(host, disk),
+            Stage::Fits => self.write(host, disk, part),
+            Stage::Written => self.sync(host, disk),
         }
     }
 
     // The part is written; the sync comes next.
     fn write<D: SharedDisk>(self, host: HostId, disk: &mut D, part: &[u8]) -> Turn<RawWrite, (), ()>
         requires { IsPiece (length part.now) }
-        ensures counts { Counts (D.faults disk.old) (D.faults disk.new) (D.calls disk.old) (D.calls disk.new) result }
-        ensures next { MatchTurn result (λ next. GoesOn self next State.Written) (λ _. ⊥) (λ _ _. Unit {0}) }
+        ensures counts { StepCounts (D.faults disk.old) (D.faults disk.new) (D.calls disk.old) (D.calls disk.new) result }
+        ensures next { MatchTurn result (IsAt self Stage.Written) (λ _. ⊥) (λ _ refusal. IsDiskRefusal refusal) }
         ensures content { Told (D.content disk.old) (D.content disk.new) (WritesPart self host (D.faults disk.new) part.now result) }
     {
         match disk.write_at(host, self.place, self.at, part) {
             Ok(()) => Turn::More(RawWrite {
                 place: self.place,
                 at: self.at,
-                state: State::Written,
+                stage: Stage::Written,
             }),
             Err(answer) => Turn::Ended((), refusal_for(answer, disk)),
         }
@@ -92,8 +95,8 @@ impl RawWrite {
     // The file's length decides whether there is room for a part of `count` bytes.
     fn ask<D: SharedDisk>(self, host: HostId, disk: &mut D, count: u64) -> Turn<RawWrite, (), ()>
         requires { write_from self + count < 2 ^ 64 }
-        ensures counts { Counts (D.faults disk.old) (D.faults disk.new) (D.calls disk.old) (D.calls disk.new) result }
-        ensures next { MatchTurn result (λ next. GoesOn self next State.Fits) (λ _. ⊥) (λ _ _. Unit {0}) }
+        ensures counts { StepCounts (D.faults disk.old) (D.faults disk.new) (D.calls disk.old) (D.calls disk.new) result }
+        ensures next { MatchTurn result (IsAt self Stage.Fits) (λ _. ⊥) (λ _ refusal. IsDiskRefusal refusal ⊎ ((room : ℕ) × (room < write_from self + count) × (refusal ≡ NoRoom (volume_of (write_place self).name) room (write_from self + count)))) }
         ensures content { Told (D.content disk.old) (D.content disk.new) (AsksLength self (D.faults disk.new) count result) }
     {
         match disk.length(host, self.place) {
@@ -103,7 +106,7 @@ impl RawWrite {
                     Turn::More(RawWrite {
                         place: self.place,
                         at: self.at,
-                        state: State::Fits,
+                        stage: Stage::Fits,
                     })
                 } else {
                     Turn::Ended((), Refusal::NoRoom(volume_at(self.place), length, end))
@@ -115,8 +118,8 @@ impl RawWrite {
 
     // What was written is put onto the medium.
     fn sync<D: SharedDisk>(self, host: HostId, disk: &mut D) -> Turn<RawWrite, (), ()>
-        ensures counts { Counts (D.faults disk.old) (D.faults disk.new) (D.calls disk.old) (D.calls disk.new) result }
-        ensures last { MatchTurn result (λ _. ⊥) (λ _. Unit {0}) (λ _ _. Unit {0}) }
+        ensures counts { StepCounts (D.faults disk.old) (D.faults disk.new) (D.calls disk.old) (D.calls disk.new) result }
+        ensures last { MatchTurn result (λ _. ⊥) (λ _. Unit {0}) (λ _ refusal. IsDiskRefusal refusal) }
         ensures content { Told (D.content disk.old) (D.content disk.new) (SyncsFile self host (D.faults disk.new) result) }
     {
         match disk.sync(host, self.place) {

@@ -2,6 +2,7 @@ pub mod Content
 pub mod Calls
 pub mod Limits
 pub mod Refusal
+pub mod Step
 pub mod Places
 pub mod Crash
 pub mod Changes
