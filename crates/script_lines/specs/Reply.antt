@@ -3,8 +3,8 @@ use Rattle.std.specs.Prelude.{ℕ, ◌≤◌, ◌++◌, Bool, true, false, List,
 use Rattle.sd_names.specs.Id.{id_text}
 use Rattle.sd_names.specs.Refusal.{refusal_text}
 use Rattle.sd_names.specs.declared.id.Id.{Id}
-use Rattle.sd_names.specs.declared.lists.TaskState.{TaskState}
-use Rattle.sd_names.specs.declared.lists.TaskState.TheVariants as state
+use Rattle.sd_names.specs.declared.task_state.TaskState.{TaskState}
+use Rattle.sd_names.specs.declared.task_state.TaskState.TheVariants as state
 use Rattle.sd_names.specs.declared.verb.Payload.{Payload}
 use Rattle.sd_names.specs.declared.verb.Payload.TheVariants.{MakePool, SpmStart, SpmStop, AddDomain, Create, Snapshot, DeleteVolume, DeleteImage, Copy, Extend, Describe, Open, Close, Read, Write, PrepareMerge, Merge, FinalizeMerge, LiveStart, LiveFill, LiveSync, LivePivot, BoxPost, BoxServe, BoxCollect, Tasks, ClearTask, Recover}
 use Rattle.script_lines.specs.Printed.{printed}

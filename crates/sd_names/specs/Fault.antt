@@ -9,8 +9,8 @@ use Rattle.sd_names.specs.declared.fault.VolumeFault.{VolumeFault}
 use Rattle.sd_names.specs.declared.fault.VolumeFault.TheVariants as volume
 use Rattle.sd_names.specs.declared.fault.LayerFault.{LayerFault}
 use Rattle.sd_names.specs.declared.fault.LayerFault.TheVariants.{Short, Magic, Version, Bits, Encrypted, Snapshots, Feature, RefcountOrder, HeaderShape, Size, Compressed, MixedBits, OutOfFile, Shared, LowRefcount, Tail}
-use Rattle.sd_names.specs.declared.turn.Absence.{Absence}
-use Rattle.sd_names.specs.declared.turn.Absence.TheVariants as absence
+use Rattle.sd_names.specs.declared.absence.Absence.{Absence}
+use Rattle.sd_names.specs.declared.absence.Absence.TheVariants as absence
 
 -- of a domain's text: the fault, its line or key, and the two digests in lower-case hexadecimal digits
 abbrev pub domain_fault_words : DomainFault → List (List ℕ)

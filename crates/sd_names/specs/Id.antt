@@ -1,5 +1,5 @@
 -- The text of an identifier.
-use Rattle.std.specs.Prelude.{◌≡◌, ◌==◌, ℕ, ◌<◌, List, length, All, Option, None, if◌then◌else◌}
+use Rattle.std.specs.Prelude.{◌≡◌, ◌==◌, ℕ, ◌<◌, List, length, replicate, All, Option, None, if◌then◌else◌}
 use Rattle.std.specs.Option.{option_map}
 use Rattle.std.specs.Str.{str_to_ascii_lowercase}
 use Rattle.uuid.specs.Text.{hyphenated_text, lower, parsed_hyphenated}
@@ -9,6 +9,10 @@ use Rattle.sd_names.specs.declared.id.Id.{Id}
 pub record IsIdBytes (bytes : List ℕ) : Type 0 where
   pub sixteen : length bytes ≡ 16
   pub in_range : All (λ b. b < 256) bytes
+
+-- the identifier of zeros (RFC 9562, section 5.9): no parent, or no image
+abbrev pub zero_id : Id
+zero_id = record { 0 = replicate 16 0 }
 
 -- the hyphenated lower-case hexadecimal text of RFC 9562, section 4: groups of 8, 4, 4, 4 and 12 digits
 abbrev pub id_text : List ℕ → List ℕ

@@ -21,6 +21,17 @@ dir_path (Removed sd image) = id_text sd.0 ++ codes "/images/_remove_" ++ id_tex
 dir_path (Master sd) = id_text sd.0 ++ codes "/master"
 dir_path (Tasks sd) = id_text sd.0 ++ codes "/master/tasks"
 
+-- the folder in which a folder stands: the shared folder stands in itself
+abbrev pub parent_of : Dir → Dir
+parent_of Root = Root
+parent_of (Domain sd) = Root
+parent_of (DomMd sd) = Domain sd
+parent_of (Images sd) = Domain sd
+parent_of (Image sd image) = Images sd
+parent_of (Removed sd image) = Images sd
+parent_of (Master sd) = Domain sd
+parent_of (Tasks sd) = Master sd
+
 -- the text of a file's name
 abbrev pub name_text : Name → List ℕ
 name_text Metadata = codes "metadata"

@@ -1,19 +1,32 @@
 // Identifiers: the sixteen bytes of RFC 9562, and their hyphenated text.
-ghost use Rattle.std.specs.Prelude.{◌≡◌, ◌≢◌, ℕ, List, length, IfSome, IfNone, Some};
+ghost use Rattle.std.specs.Prelude.{◌≡◌, ◌≢◌, ◌↔◌, ℕ, List, length, IfSome, IfNone, IsTrue, Some};
 ghost use Rattle.std.specs.Str.{IsAscii};
-ghost use Rattle.sd_names.specs.Id.{IsIdBytes, ReadsAs, id_text, id_of};
+ghost use Rattle.sd_names.specs.Id.{IsIdBytes, ReadsAs, id_text, id_of, zero_id};
 
 use std::fmt;
 use uuid::Uuid;
 
 /// An identifier of a pool, a domain, an image, a volume or a task: the sixteen bytes of RFC 9562, section 4.
-/// Identifiers are ordered by their bytes.
-#[derive(Clone, Copy, Debug, PartialEq, Eq, PartialOrd, Ord)]
+#[derive(Clone, Copy, Debug, Default, PartialEq, Eq, PartialOrd, Ord)]
 pub struct Id(pub [u8; 16]);
 
 impl Id {
     /// Sixteen bytes of zero: no parent, or no image.
     pub const ZERO: Id = Id([0; 16]);
+
+    /// Whether the two are one identifier.
+    pub fn is(&self, other: &Id) -> bool
+        ensures { IsTrue result ↔ (self.now ≡ other.now) }
+    {
+        self == other
+    }
+
+    /// Whether this is the identifier of zeros (RFC 9562, section 5.9), which stands for no parent or no image.
+    pub fn is_zero(&self) -> bool
+        ensures { IsTrue result ↔ (self.now ≡ zero_id) }
+    {
+        self.is(&Id::ZERO)
+    }
 
     /// The identifier of a hyphenated text of 36 bytes (RFC 9562, section 4), in either case.
     #[tactic(auto, unfolding(crate::specs::Id::id_of))]

@@ -2,7 +2,7 @@
 ghost use Rattle.std.specs.Prelude.{◌≡◌, ◌↔◌, ◌≤◌, ◌+◌, ◌++◌, length, IsTrue};
 ghost use Rattle.std.specs.Cmp.{IsTotalOrder};
 ghost use Rattle.sd_names.specs.Id.{id_text};
-ghost use Rattle.sd_names.specs.Place.{dir_path, name_text, place_path, name_rank, dir_cmp, name_cmp, place_cmp, DirHasIds, NameHasIds, PlaceHasIds};
+ghost use Rattle.sd_names.specs.Place.{dir_path, name_text, place_path, name_rank, dir_cmp, name_cmp, place_cmp, parent_of, DirHasIds, NameHasIds, PlaceHasIds};
 ghost use Rattle.sd_names.specs.declared.place.Dir.{Dir};
 ghost use Rattle.sd_names.specs.declared.place.Name.{Name};
 ghost use Rattle.sd_names.specs.declared.place.Place.{Place};
@@ -22,13 +22,13 @@ fn id_then(id: &Id, rest: &str) -> PathText
     ensures len { length result.bytes ≡ 36 + length rest.now }
 {
     let mut text = PathText::new();
-    push_id(&mut text, id);
+    push_hyphenated(&mut text, id);
     text.push_str(rest);
     text
 }
 
-/// Pushes the 36 bytes of an identifier's text.
-pub fn push_id(text: &mut PathText, id: &Id)
+/// Pushes the 36 bytes of an identifier's text into a text of fixed room.
+pub fn push_hyphenated(text: &mut PathText, id: &Id)
     requires room { length text.old.bytes + 36 ≤ 160 }
     ensures bytes { text.new.bytes ≡ text.old.bytes ++ id_text id.now.0 }
     ensures len { length text.new.bytes ≡ length text.old.bytes + 36 }
@@ -58,7 +58,7 @@ fn image_path(sd: &Id, between: &str, image: &Id) -> PathText
     ensures len { length result.bytes ≡ 72 + length between.now }
 {
     let mut path = id_then(sd, between);
-    push_id(&mut path, image);
+    push_hyphenated(&mut path, image);
     path
 }
 
@@ -127,9 +127,21 @@ impl Dir {
         self == other
     }
 
-    /// The folder's identifiers have sixteen bytes. It does nothing: a proof that needs the fact calls it.
+    /// The folder in which a folder stands. The shared folder stands in itself.
+    pub fn parent(&self) -> Dir
+        ensures { result ≡ parent_of self.now }
+    {
+        match *self {
+            Dir::Root | Dir::Domain(_) => Dir::Root,
+            Dir::DomMd(sd) | Dir::Images(sd) | Dir::Master(sd) => Dir::Domain(sd),
+            Dir::Image(sd, _) | Dir::Removed(sd, _) => Dir::Images(sd),
+            Dir::Tasks(sd) => Dir::Master(sd),
+        }
+    }
+
+    // The folder's identifiers have sixteen bytes. It does nothing: a proof that needs the fact calls it.
     #[inline]
-    pub fn has_ids(&self)
+    fn has_ids(&self)
         ensures { DirHasIds self.now }
     {
         match self {
@@ -181,9 +193,9 @@ impl Name {
         self == other
     }
 
-    /// The name's identifier has sixteen bytes. It does nothing: a proof that needs the fact calls it.
+    // The name's identifier has sixteen bytes. It does nothing: a proof that needs the fact calls it.
     #[inline]
-    pub fn has_ids(&self)
+    fn has_ids(&self)
         ensures { NameHasIds self.now }
     {
         match self {
@@ -253,9 +265,9 @@ impl Place {
         self.dir.is(&other.dir) && self.name.is(&other.name)
     }
 
-    /// The place's identifiers have sixteen bytes. It does nothing: a proof that needs the fact calls it.
+    // The place's identifiers have sixteen bytes. It does nothing: a proof that needs the fact calls it.
     #[inline]
-    pub fn has_ids(&self)
+    fn has_ids(&self)
         ensures { PlaceHasIds self.now }
     {
         self.dir.has_ids();

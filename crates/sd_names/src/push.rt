@@ -35,21 +35,3 @@ pub fn push_id(text: &mut Vec<u8>, id: &Id)
 {
     push_all(text, &id.text())
 }
-
-#[cfg(test)]
-mod tests {
-    use super::*;
-    use std::test::Fail;
-
-    #[test]
-    fn pushes_into_reserved_room(rt: HostRuntime) -> Result<(), Fail> {
-        let mut text = Vec::with_capacity(rt.alloc(), 60)?;
-        push_all(&mut text, b"70 ");
-        push_number(&mut text, u64::MAX);
-        push_all(&mut text, b" ");
-        push_id(&mut text, &Id::ZERO);
-        let wanted = b"70 18446744073709551615 00000000-0000-0000-0000-000000000000";
-        assert!(rt; text.as_slice() == wanted.as_slice());
-        Ok(())
-    }
-}

@@ -264,7 +264,34 @@ impl Refusal {
             | Refusal::TaskOpen(id)
             | Refusal::TaskExists(id)
             | Refusal::TaskCorrupt(id) => Values::One(Value::Identifier(id)),
-            _ => Values::Zero,
+            Refusal::BadLine
+            | Refusal::LineTooLong
+            | Refusal::UnknownVerb
+            | Refusal::NotBuilt
+            | Refusal::HostDown
+            | Refusal::HostBusy
+            | Refusal::HostIdle
+            | Refusal::HostUp
+            | Refusal::TooManyHosts => Values::Zero,
+            Refusal::NoPool
+            | Refusal::NoDomain
+            | Refusal::DomainExists
+            | Refusal::TooManyDomains
+            | Refusal::NotSpm
+            | Refusal::NoImage
+            | Refusal::ImageExists => Values::Zero,
+            Refusal::ImageNotOpen
+            | Refusal::LeaseAreaFull
+            | Refusal::ImageOpen
+            | Refusal::TooManyOpen
+            | Refusal::NoReadingVolume
+            | Refusal::LastVolume
+            | Refusal::NotPrepared
+            | Refusal::NotMerging
+            | Refusal::NoTask
+            | Refusal::TasksFull
+            | Refusal::BoxFull
+            | Refusal::OutOfMemory => Values::Zero,
         }
     }
 

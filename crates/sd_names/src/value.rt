@@ -5,7 +5,7 @@ ghost use Rattle.sd_names.specs.Id.{id_text};
 ghost use Rattle.sd_names.specs.Value.{value_text, IsShort};
 
 use crate::Id;
-use crate::place::push_id;
+use crate::place::push_hyphenated;
 use arrayvec::ArrayString;
 use itoa::Buffer;
 use std::str;
@@ -77,7 +77,7 @@ pub fn push_value(text: &mut ArrayString<160>, value: Value)
         }
         Value::Identifier(id) => {
             text.push_str(" ");
-            push_id(text, &id)
+            push_hyphenated(text, &id)
         }
         Value::Word(word) => push_word(text, word),
         Value::Digest(digest) => {

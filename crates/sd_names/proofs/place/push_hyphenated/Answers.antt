@@ -1,6 +1,6 @@
 use Rattle.std.proofs.Common.{length, ap, arith, lit<}
 use Rattle.sd_names.proofs.IdLemmas.{id_text-length}
-use Rattle.sd_names.proofs.place.push_id.Goals as goal
+use Rattle.sd_names.proofs.place.push_hyphenated.Goals as goal
 
 pub push_str-requires : goal.push_str-requires
 push_str-requires c =
