@@ -70,7 +70,7 @@ pub record IsSameWrite (w next : RawWrite) : Type 0 where
 -- the same write in another stage
 pub record IsAt (w : RawWrite) (stage : Stage) (next : RawWrite) : Type 0 where
   pub same : IsSameWrite w next
-  pub stage : stage_of next ≡ stage
+  pub now_in : stage_of next ≡ stage
 
 -- how many more steps a write takes at the most
 abbrev pub left_of : Stage → ℕ
