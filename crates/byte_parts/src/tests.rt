@@ -9,4 +9,6 @@ fn parts_stand_one_behind_the_other(rt: HostRuntime) {
     put(&mut block, 2, b"c");
     put(&mut block, 5, b"z");
     assert!(rt; block == *b"abc\0\0z");
+    put(&mut block, 1, b"xy");
+    assert!(rt; block == *b"axy\0\0z");
 }
