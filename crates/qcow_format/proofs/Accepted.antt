@@ -11,7 +11,7 @@ use Rattle.sd_names.specs.declared.fault.LayerFault.{LayerFault}
 use Rattle.sd_names.specs.declared.fault.LayerFault.TheVariants.{HeaderShape, Size, Short}
 use Rattle.sd_names.specs.declared.kinds.Format.{Format}
 use Rattle.sd_names.specs.declared.kinds.Format.TheVariants.{Raw, Cow}
-use Rattle.qcow_format.specs.declared.extension.TheConstants.{BACKING_FORMAT}
+use Rattle.qcow_format.specs.Numbers.{backing_format}
 use Rattle.qcow_format.specs.Bytes.{number}
 use Rattle.qcow_format.specs.Extension.{placed_at, end_of, data_of, is_extension, extensions_up_to, extensions_at, end_after}
 use Rattle.qcow_format.specs.declared.header.Header.{Header}
@@ -84,7 +84,7 @@ formats_stand (suc n) head at g eight e =
         → last_format head (cond b (placed_at head at ∷ extensions_up_to n head (end_of (placed_at head at))) []) ≡ Ok (Some g)
         → Stands at g.0
     go true behind e =
-        one_stands at (eqb (placed_at head at).kind BACKING_FORMAT) (format_at at (data_of head (placed_at head at))) (last_format head (extensions_up_to n head (end_of (placed_at head at)))) g
+        one_stands at (eqb (placed_at head at).kind backing_format) (format_at at (data_of head (placed_at head at))) (last_format head (extensions_up_to n head (end_of (placed_at head at)))) g
         (λ x h. format_at_stands at (data_of head (placed_at head at)) x eight h) behind e
     go false behind e = absurd cc
 

@@ -9,7 +9,7 @@ use Rattle.sd_names.specs.declared.fault.LayerFault.{LayerFault}
 use Rattle.sd_names.specs.declared.fault.LayerFault.TheVariants.{Magic, Version, Bits, Encrypted, Snapshots, Feature, RefcountOrder}
 use Rattle.sd_names.specs.declared.kinds.Format.{Format}
 use Rattle.qcow_format.specs.declared.header.Header.{Header}
-use Rattle.qcow_format.specs.declared.header.TheConstants.{MAGIC}
+use Rattle.qcow_format.specs.Numbers.{magic}
 use Rattle.qcow_format.specs.Bytes.{number}
 use Rattle.qcow_format.specs.Header.{fields_of_version_2, fields_of, field_fault, fine_fields, head_size, shape_of, mapped, with_format, header_of}
 use Rattle.qcow_format.specs.Written.{version_2_table, version_3_table, puts, format_bytes, put_format, put_fields, written, IsHeader}
@@ -105,7 +105,7 @@ tests : (h : Header) → field_fault h ≡ None
     → ((h.version ≡ 2) ⊎ (h.version ≡ 3)) × (h.incompatible_features ≡ 0) × (h.refcount_order ≡ 4)
 unfolding field_fault
 tests h e =
-    let t = no_test (not (eqb h.magic MAGIC)) (not (eqb h.version 2 || eqb h.version 3)) (ltb h.cluster_bits 12 || ltb 21 h.cluster_bits)
+    let t = no_test (not (eqb h.magic magic)) (not (eqb h.version 2 || eqb h.version 3)) (ltb h.cluster_bits 12 || ltb 21 h.cluster_bits)
     (not (eqb h.crypt_method 0)) (not (eqb h.nb_snapshots 0)) (not (eqb h.incompatible_features 0)) (not (eqb h.refcount_order 4))
     Magic Version Bits Encrypted Snapshots (Feature (trailing_zeros w64 h.incompatible_features)) RefcountOrder e in
     (is_version h.version t.0, is_equal h.incompatible_features 0 t.1, is_equal h.refcount_order 4 t.2)

@@ -3,7 +3,7 @@ use Rattle.std.proofs.Common.{◌≡◌, ℕ, Bool, true, false, cond, eqb, List
 use Rattle.std.specs.Prelude.{unwrap_or}
 use Rattle.sd_names.specs.declared.fault.LayerFault.{LayerFault}
 use Rattle.sd_names.specs.declared.kinds.Format.{Format}
-use Rattle.qcow_format.specs.declared.extension.TheConstants.{BACKING_FORMAT}
+use Rattle.qcow_format.specs.Numbers.{backing_format}
 use Rattle.qcow_format.specs.Extension.{Placed, placed_at, end_of, data_of, is_extension, extensions_at, end_after}
 use Rattle.qcow_format.specs.Format.{◌>>=◌, format_at, last_format, found_after, walked}
 use Rattle.qcow_format.proofs.Walk.{extensions_at-none, extensions_at-some}
@@ -35,7 +35,7 @@ met found f (Err e) = refl
 pub one_more : (head : List ℕ) (e : Placed) (es : List Placed) (found next : Found) → found_after found e.kind e.at (data_of head e) ≡ Ok next
     → with_earlier next (last_format head es) ≡ with_earlier found (last_format head (e ∷ es))
 unfolding last_format found_after
-one_more head e es found next h = go (eqb e.kind BACKING_FORMAT) (format_at e.at (data_of head e)) h
+one_more head e es found next h = go (eqb e.kind backing_format) (format_at e.at (data_of head e)) h
   where
     go : (b : Bool) (r : Result (ℕ × Format) LayerFault)
         → cond b (r >>= λ f. Ok (Some f)) (Ok found) ≡ Ok next
@@ -47,7 +47,7 @@ one_more head e es found next h = go (eqb e.kind BACKING_FORMAT) (format_at e.at
 pub fails : (head : List ℕ) (e : Placed) (es : List Placed) (found : Found) (x : LayerFault) → found_after found e.kind e.at (data_of head e) ≡ Err x
     → with_earlier found (last_format head (e ∷ es)) ≡ Err x
 unfolding last_format found_after
-fails head e es found x h = go (eqb e.kind BACKING_FORMAT) (format_at e.at (data_of head e)) h
+fails head e es found x h = go (eqb e.kind backing_format) (format_at e.at (data_of head e)) h
   where
     go : (b : Bool) (r : Result (ℕ × Format) LayerFault)
         → cond b (r >>= λ f. Ok (Some f)) (Ok found) ≡ Err x

@@ -12,7 +12,7 @@ use Rattle.sd_names.specs.declared.fault.LayerFault.TheVariants.{Short, HeaderSh
 use Rattle.sd_names.specs.declared.kinds.Format.{Format}
 use Rattle.qcow_format.specs.declared.header.Header.{Header}
 use Rattle.std.specs.Int.{trailing_zeros}
-use Rattle.qcow_format.specs.declared.header.TheConstants.{MAGIC}
+use Rattle.qcow_format.specs.Numbers.{magic}
 use Rattle.qcow_format.specs.Format.{◌>>=◌, walked}
 use Rattle.qcow_format.specs.Name.{backing_id, is_id, is_name, last_part, touches}
 use Rattle.qcow_format.specs.Header.{header_of, fine_fields, fields_of, field_fault, first_fault, shape_of, sized, with_format, head_size, has_shape, has_aligned_tables, has_length, has_name, is_closed, mapped}
@@ -78,7 +78,7 @@ abbrev version_test : Header → Bool × LayerFault
 version_test h = (not (h.version == 2 || h.version == 3), Version)
 
 abbrev magic_test : Header → Bool × LayerFault
-magic_test h = (not (h.magic == MAGIC), Magic)
+magic_test h = (not (h.magic == magic), Magic)
 
 pub cluster_range : (h : Header) → field_fault h ≡ None → (12 ≤ h.cluster_bits) × (h.cluster_bits ≤ 21)
 unfolding field_fault

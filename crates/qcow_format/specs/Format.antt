@@ -5,7 +5,7 @@ use Rattle.sd_names.specs.declared.fault.LayerFault.{LayerFault}
 use Rattle.sd_names.specs.declared.fault.LayerFault.TheVariants.{HeaderShape}
 use Rattle.sd_names.specs.declared.kinds.Format.{Format}
 use Rattle.sd_names.specs.declared.kinds.Format.TheVariants.{Raw, Cow}
-use Rattle.qcow_format.specs.declared.extension.TheConstants.{BACKING_FORMAT}
+use Rattle.qcow_format.specs.Numbers.{backing_format}
 use Rattle.qcow_format.specs.Extension.{Placed, data_of, extensions_at, end_after}
 
 -- What fails hands its fault on.
@@ -29,14 +29,14 @@ format_at at text = if nat_lt 512 (at + 8 + length text) then Err HeaderShape el
 -- Where the last backing format among extensions stands, and which it is. Each of them has to be fine.
 unfoldable pub last_format : List ℕ → List Placed → Result (Option (ℕ × Format)) LayerFault
 last_format head [] = Ok None
-last_format head (e ∷ es) = if e.kind == BACKING_FORMAT then (do
+last_format head (e ∷ es) = if e.kind == backing_format then (do
   format ← format_at e.at (data_of head e)
   later ← last_format head es
   Ok (Some (unwrap_or later format))) else last_format head es
 
 -- what has been found where an extension of a type stands at a place, with its data, after others
 unfoldable pub found_after : Option (ℕ × Format) → ℕ → ℕ → List ℕ → Result (Option (ℕ × Format)) LayerFault
-found_after found kind at text = if kind == BACKING_FORMAT then (do
+found_after found kind at text = if kind == backing_format then (do
   format ← format_at at text
   Ok (Some format)) else Ok found
 

@@ -5,7 +5,7 @@ use Rattle.sd_names.specs.declared.fault.LayerFault.{LayerFault}
 use Rattle.sd_names.specs.declared.fault.LayerFault.TheVariants.{Short, Magic, Version, Bits, Encrypted, Snapshots, Feature, RefcountOrder, HeaderShape, Size}
 use Rattle.sd_names.specs.declared.kinds.Format.{Format}
 use Rattle.qcow_format.specs.declared.header.Header.{Header}
-use Rattle.qcow_format.specs.declared.header.TheConstants.{MAGIC}
+use Rattle.qcow_format.specs.Numbers.{magic}
 use Rattle.qcow_format.specs.Bytes.{number}
 use Rattle.qcow_format.specs.Name.{is_name}
 use Rattle.qcow_format.specs.Format.{◌>>=◌, walked}
@@ -61,7 +61,7 @@ first_fault (t ∷ ts) = if t.0 then Some t.1 else first_fault ts
 -- what is wrong with the fields alone
 unfoldable pub field_fault : Header → Option LayerFault
 field_fault h = first_fault (
-    (not (h.magic == MAGIC), Magic)
+    (not (h.magic == magic), Magic)
     ∷ (not (h.version == 2 || h.version == 3), Version)
     ∷ (nat_lt h.cluster_bits 12 || nat_lt 21 h.cluster_bits, Bits)
     ∷ (not (h.crypt_method == 0), Encrypted)

@@ -3,7 +3,7 @@ use Rattle.std.specs.Prelude.{◌≡◌, ℕ, ◌+◌, ◌^◌, ◌<◌, ◌≤�
 use Rattle.std.specs.List.{AllByRecursion}
 use Rattle.sd_names.specs.declared.kinds.Format.{Format}
 use Rattle.sd_names.specs.declared.kinds.Format.TheVariants.{Raw, Cow}
-use Rattle.qcow_format.specs.declared.extension.TheConstants.{BACKING_FORMAT}
+use Rattle.qcow_format.specs.Numbers.{backing_format}
 use Rattle.qcow_format.specs.declared.header.Header.{Header}
 use Rattle.qcow_format.specs.Bytes.{put, bytes_of}
 use Rattle.qcow_format.specs.Header.{field_fault, name_of, mapped}
@@ -52,8 +52,8 @@ puts (f ∷ fs) bytes = puts fs (put f.at (bytes_of f.width f.value) bytes)
 
 -- the backing format extension: type, length, text, and zeros up to a multiple of 8 bytes
 unfoldable pub format_bytes : Format → List ℕ
-format_bytes Raw = (bytes_of 4 BACKING_FORMAT ++ bytes_of 4 3) ++ (codes "raw" ++ replicate 5 0)
-format_bytes Cow = (bytes_of 4 BACKING_FORMAT ++ bytes_of 4 5) ++ (codes "qcow2" ++ replicate 3 0)
+format_bytes Raw = (bytes_of 4 backing_format ++ bytes_of 4 3) ++ (codes "raw" ++ replicate 5 0)
+format_bytes Cow = (bytes_of 4 backing_format ++ bytes_of 4 5) ++ (codes "qcow2" ++ replicate 3 0)
 
 -- bytes with a backing format laid over them where there is one
 abbrev pub put_format : Option ℕ → Option Format → List ℕ → List ℕ
