@@ -12,6 +12,7 @@ use Rattle.sd_names.specs.Id.{IsIdBytes, id_text, id_of}
 use Rattle.sd_names.specs.declared.id.Id.{Id}
 use Rattle.sd_names.proofs.IdLemmas.{id_text-length, id_text-apart, reads_itself, parsed_from_reads}
 use Rattle.kv_text.specs.Ids.{this_id}
+use Rattle.kv_text.specs.Keys.{description_of}
 use Rattle.kv_text.specs.Number.{number_of, is_numeral}
 use Rattle.kv_text.specs.Text.{IsOneLine, is_line_feed}
 use Rattle.kv_text.proofs.NumberLemmas.{own}
@@ -65,3 +66,8 @@ id_one_line bytes =
     list_any_none is_line_feed (id_text bytes)
     (All-from_get_or (λ (c : ℕ). is_line_feed c ≡ false) (id_text bytes) 0
     (λ k within. apart (get_or (id_text bytes) k 0) (id_text-apart bytes k (rw (← id_text-length bytes) within))))
+
+-- a description that is short enough means itself
+pub description_back : (d : List ℕ) → length d ≤ 4096 → description_of d ≡ Some d
+unfolding description_of
+description_back d h = rw (le-leb (length d) 4096 h) refl

@@ -6,3 +6,5 @@ pub mod Next
 pub mod Lookup
 pub mod Number
 pub mod Ids
+pub mod Keys
+pub mod Gives

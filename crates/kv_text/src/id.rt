@@ -10,5 +10,5 @@ pub fn read_own_id(id: Id, value: &[u8]) -> Option<Id>
     ensures { result ≡ this_id id value.now }
 {
     let found = Id::read(value)?;
-    if found == id { Some(id) } else { None }
+    if found.is(&id) { Some(id) } else { None }
 }

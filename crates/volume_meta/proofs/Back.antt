@@ -21,11 +21,12 @@ use Rattle.kv_text.specs.Lookup.{value_of}
 use Rattle.kv_text.specs.Text.{KeyValue, IsOneLine, IsWritable, pairs, text_of}
 use Rattle.kv_text.proofs.Line.{total, length-text_of}
 use Rattle.kv_text.proofs.ReadBack.{items_closed, eof_closed, no_bad_line, all_pairs}
-use Rattle.kv_text.proofs.ValuesBack.{number_of-decimal, decimal_one_line, decimal_short, id_of-id_text, this_id-id_text, id_one_line}
-use Rattle.volume_meta.specs.Read.{fields_of, first_missing, head_of, middle_of, needed_keys, optional, read_volume, shape_fault, tail_of, value}
+use Rattle.kv_text.proofs.ValuesBack.{number_of-decimal, decimal_one_line, decimal_short, id_of-id_text, this_id-id_text, id_one_line, description_back}
+use Rattle.kv_text.specs.Keys.{first_missing, optional, shape_fault, value}
+use Rattle.volume_meta.specs.Read.{fields_of, needed_keys, read_volume, with_fault}
 use Rattle.volume_meta.specs.Text.{cap_line, line_of, merged_line, mtime_line, size_line, first_lines, format_text, kind_text, last_lines, legality_text, volume_text, voltype_text}
 use Rattle.volume_meta.specs.Valid.{IsValid, MayBeMerged}
-use Rattle.volume_meta.specs.Values.{capacity_of, description_of, disk_type_of, format_of, generation_of, kind_of, legality_of, merged_of, size_of, voltype_of}
+use Rattle.volume_meta.specs.Values.{capacity_of, disk_type_of, format_of, generation_of, kind_of, legality_of, merged_of, size_of, voltype_of}
 use Rattle.volume_meta.specs.declared.record.VolumeRecord.{VolumeRecord}
 
 abbrev pair_of : Key → List ℕ → KeyValue
@@ -93,10 +94,6 @@ generation_back : (n : ℕ) → n ≤ 999 → generation_of (decimal n) ≡ Some
 unfolding generation_of
 generation_back n h = rw (number_of-decimal n (omega arith), le-leb n 999 h) refl
 
-description_back : (d : List ℕ) → length d ≤ 4096 → description_of d ≡ Some d
-unfolding description_of
-description_back d h = rw (le-leb (length d) 4096 h) refl
-
 disk_type_back : (d : List ℕ) → 1 ≤ length d → length d ≤ 16 → disk_type_of d ≡ Some d
 unfolding disk_type_of
 disk_type_back d some h = rw (le-leb 1 (length d) some, le-leb (length d) 16 h) refl
@@ -158,27 +155,10 @@ module _ (r : VolumeRecord) (ps : List KeyValue) (valid : IsValid r) where
   none_missing true s = rw (s.cap, s.domain, s.format, s.image, s.legality, s.parent, s.kind, s.voltype) refl
   none_missing false s = rw (s.domain, s.format, s.image, s.legality, s.parent, s.size, s.kind, s.voltype) refl
 
-  cap_read : Bool → ℕ
-  cap_read true = r.capacity
-  cap_read false = 0
-
-  head_back : (five : Bool) → Says five r ps → head_of five ps ≡ Ok (record { cap = cap_read five; ctime = r.ctime; description = r.description; disk_type = r.disk_type })
-  unfolding head_of cap_read
-  head_back true s = rw (s.cap, capacity_back r.capacity valid.blocks valid.least valid.most, s.ctime, number_of-decimal r.ctime valid.ctime, s.description, description_back r.description valid.description, s.disk_type, disk_type_back r.disk_type valid.disk_type_some valid.disk_type) refl
-  head_back false s = rw (s.ctime, number_of-decimal r.ctime valid.ctime, s.description, description_back r.description valid.description, s.disk_type, disk_type_back r.disk_type valid.disk_type_some valid.disk_type) refl
-
-  middle_back : (five : Bool) → Says five r ps → middle_of r.domain r.image ps ≡ Ok (record { domain = r.domain; format = r.format; generation = r.generation; image = r.image; legality = r.legality; merged = r.merged })
-  unfolding middle_of
-  middle_back five s = rw (s.domain, this_id-id_text r.domain valid.domain, s.format, format_back r.format, s.generation, generation_back r.generation valid.generation, s.image, this_id-id_text r.image valid.image, s.legality, legality_back r.legality, s.merged, merged_back r.legality r.merged valid.merged) refl
-
-  tail_back : (five : Bool) → Says five r ps → tail_of five (cap_read five) ps ≡ Ok (record { parent = r.parent; capacity = r.capacity; kind = r.kind; voltype = r.voltype })
-  unfolding tail_of cap_read
-  tail_back true s = rw (s.parent, id_of-id_text r.parent.0 valid.parent, s.kind, kind_back r.kind, s.voltype, voltype_back r.voltype) refl
-  tail_back false s = rw (s.parent, id_of-id_text r.parent.0 valid.parent, s.size, size_back r.capacity valid.blocks valid.least valid.most, s.kind, kind_back r.kind, s.voltype, voltype_back r.voltype) refl
-
   fields_back : (five : Bool) → Says five r ps → fields_of five r.domain r.image ps ≡ Ok r
   unfolding fields_of
-  fields_back five s = rw (head_back five s, middle_back five s, tail_back five s) refl
+  fields_back true s = rw (s.cap, capacity_back r.capacity valid.capacity.blocks valid.capacity.least valid.capacity.most, s.ctime, number_of-decimal r.ctime valid.ctime, s.description, description_back r.description valid.description, s.disk_type, disk_type_back r.disk_type valid.disk_type_some valid.disk_type, s.domain, this_id-id_text r.domain valid.domain, s.format, format_back r.format, s.generation, generation_back r.generation valid.generation, s.image, this_id-id_text r.image valid.image, s.legality, legality_back r.legality, s.merged, merged_back r.legality r.merged valid.merged, s.parent, id_of-id_text r.parent.0 valid.parent, s.kind, kind_back r.kind, s.voltype, voltype_back r.voltype) refl
+  fields_back false s = rw (s.ctime, number_of-decimal r.ctime valid.ctime, s.description, description_back r.description valid.description, s.disk_type, disk_type_back r.disk_type valid.disk_type_some valid.disk_type, s.domain, this_id-id_text r.domain valid.domain, s.format, format_back r.format, s.generation, generation_back r.generation valid.generation, s.image, this_id-id_text r.image valid.image, s.legality, legality_back r.legality, s.merged, merged_back r.legality r.merged valid.merged, s.parent, id_of-id_text r.parent.0 valid.parent, s.size, size_back r.capacity valid.capacity.blocks valid.capacity.least valid.capacity.most, s.kind, kind_back r.kind, s.voltype, voltype_back r.voltype) refl
 
 kind_line : (k : AllocKind) → IsOneLine (kind_text k)
 kind_line Sparse = refl
@@ -199,26 +179,26 @@ format_line Cow = refl
 -- no value has a line feed
 all_writable : (five merged : Bool) (r : VolumeRecord) → IsValid r → All IsWritable (volume_pairs five merged r)
 all_writable true true r valid =
-    let capacity = decimal_one_line r.capacity (omega (arith, valid.most)) in
-    let size = decimal_one_line (r.capacity / 512) (omega (arith, valid.most)) in
+    let capacity = decimal_one_line r.capacity (omega (arith, valid.capacity.most)) in
+    let size = decimal_one_line (r.capacity / 512) (omega (arith, valid.capacity.most)) in
     let ctime = decimal_one_line r.ctime valid.ctime in
     let generation = decimal_one_line r.generation (omega (arith, valid.generation)) in
     All-from_recursion IsWritable (volume_pairs true true r) (record { key = refl; divided = refl; value = capacity }, (record { key = refl; divided = refl; value = ctime }, (record { key = refl; divided = refl; value = valid.description_line }, (record { key = refl; divided = refl; value = valid.disk_type_line }, (record { key = refl; divided = refl; value = id_one_line r.domain.0 }, (record { key = refl; divided = refl; value = format_line r.format }, (record { key = refl; divided = refl; value = generation }, (record { key = refl; divided = refl; value = id_one_line r.image.0 }, (record { key = refl; divided = refl; value = legality_line r.legality }, (record { key = refl; divided = refl; value = refl }, (record { key = refl; divided = refl; value = id_one_line r.parent.0 }, (record { key = refl; divided = refl; value = kind_line r.kind }, (record { key = refl; divided = refl; value = voltype_line r.voltype }, tt)))))))))))))
 all_writable true false r valid =
-    let capacity = decimal_one_line r.capacity (omega (arith, valid.most)) in
-    let size = decimal_one_line (r.capacity / 512) (omega (arith, valid.most)) in
+    let capacity = decimal_one_line r.capacity (omega (arith, valid.capacity.most)) in
+    let size = decimal_one_line (r.capacity / 512) (omega (arith, valid.capacity.most)) in
     let ctime = decimal_one_line r.ctime valid.ctime in
     let generation = decimal_one_line r.generation (omega (arith, valid.generation)) in
     All-from_recursion IsWritable (volume_pairs true false r) (record { key = refl; divided = refl; value = capacity }, (record { key = refl; divided = refl; value = ctime }, (record { key = refl; divided = refl; value = valid.description_line }, (record { key = refl; divided = refl; value = valid.disk_type_line }, (record { key = refl; divided = refl; value = id_one_line r.domain.0 }, (record { key = refl; divided = refl; value = format_line r.format }, (record { key = refl; divided = refl; value = generation }, (record { key = refl; divided = refl; value = id_one_line r.image.0 }, (record { key = refl; divided = refl; value = legality_line r.legality }, (record { key = refl; divided = refl; value = id_one_line r.parent.0 }, (record { key = refl; divided = refl; value = kind_line r.kind }, (record { key = refl; divided = refl; value = voltype_line r.voltype }, tt))))))))))))
 all_writable false true r valid =
-    let capacity = decimal_one_line r.capacity (omega (arith, valid.most)) in
-    let size = decimal_one_line (r.capacity / 512) (omega (arith, valid.most)) in
+    let capacity = decimal_one_line r.capacity (omega (arith, valid.capacity.most)) in
+    let size = decimal_one_line (r.capacity / 512) (omega (arith, valid.capacity.most)) in
     let ctime = decimal_one_line r.ctime valid.ctime in
     let generation = decimal_one_line r.generation (omega (arith, valid.generation)) in
     All-from_recursion IsWritable (volume_pairs false true r) (record { key = refl; divided = refl; value = ctime }, (record { key = refl; divided = refl; value = valid.description_line }, (record { key = refl; divided = refl; value = valid.disk_type_line }, (record { key = refl; divided = refl; value = id_one_line r.domain.0 }, (record { key = refl; divided = refl; value = format_line r.format }, (record { key = refl; divided = refl; value = generation }, (record { key = refl; divided = refl; value = id_one_line r.image.0 }, (record { key = refl; divided = refl; value = legality_line r.legality }, (record { key = refl; divided = refl; value = refl }, (record { key = refl; divided = refl; value = refl }, (record { key = refl; divided = refl; value = id_one_line r.parent.0 }, (record { key = refl; divided = refl; value = size }, (record { key = refl; divided = refl; value = kind_line r.kind }, (record { key = refl; divided = refl; value = voltype_line r.voltype }, tt))))))))))))))
 all_writable false false r valid =
-    let capacity = decimal_one_line r.capacity (omega (arith, valid.most)) in
-    let size = decimal_one_line (r.capacity / 512) (omega (arith, valid.most)) in
+    let capacity = decimal_one_line r.capacity (omega (arith, valid.capacity.most)) in
+    let size = decimal_one_line (r.capacity / 512) (omega (arith, valid.capacity.most)) in
     let ctime = decimal_one_line r.ctime valid.ctime in
     let generation = decimal_one_line r.generation (omega (arith, valid.generation)) in
     All-from_recursion IsWritable (volume_pairs false false r) (record { key = refl; divided = refl; value = ctime }, (record { key = refl; divided = refl; value = valid.description_line }, (record { key = refl; divided = refl; value = valid.disk_type_line }, (record { key = refl; divided = refl; value = id_one_line r.domain.0 }, (record { key = refl; divided = refl; value = format_line r.format }, (record { key = refl; divided = refl; value = generation }, (record { key = refl; divided = refl; value = id_one_line r.image.0 }, (record { key = refl; divided = refl; value = legality_line r.legality }, (record { key = refl; divided = refl; value = refl }, (record { key = refl; divided = refl; value = id_one_line r.parent.0 }, (record { key = refl; divided = refl; value = size }, (record { key = refl; divided = refl; value = kind_line r.kind }, (record { key = refl; divided = refl; value = voltype_line r.voltype }, tt)))))))))))))
@@ -227,16 +207,6 @@ all_writable false false r valid =
 text_is : (version : ℕ) (r : VolumeRecord) → volume_text version r ≡ text_of (volume_pairs (version == 5) r.merged r) ++ codes "EOF\n"
 unfolding volume_text
 text_is version r = ap (λ (l : List ℕ). l ++ codes "EOF\n") (flat_lines (version == 5) r ∙ flat_pairs (version == 5) r.merged r)
-
-pub reads_back : (version : ℕ) (r : VolumeRecord) → IsValid r → read_volume version r.domain r.image (volume_text version r) ≡ Ok r
-unfolding read_volume shape_fault
-reads_back version r valid =
-    let five = version == 5 in
-    let ps = volume_pairs five r.merged r in
-    let all = all_writable five r.merged r valid in
-    let said = says five r.merged r refl in
-    let found : pairs (text_of ps ++ codes "EOF\n") ≡ ps = ap (filter_map result_ok) (items_closed ps all) ∙ all_pairs ps in
-    rw (text_is version r, eof_closed ps all, found, items_closed ps all, no_bad_line ps, none_missing r ps valid five said) (fields_back r ps valid five said)
 
 kind_short : (k : AllocKind) → length (kind_text k) ≤ 12
 kind_short Sparse = omega arith
@@ -272,8 +242,8 @@ record Short (r : VolumeRecord) : Type 0 where
 
 short : (r : VolumeRecord) → IsValid r → Short r
 short r valid = record {
-  capacity = decimal_short r.capacity (omega (arith, valid.most));
-  size = decimal_short (r.capacity / 512) (omega (arith, valid.most));
+  capacity = decimal_short r.capacity (omega (arith, valid.capacity.most));
+  size = decimal_short (r.capacity / 512) (omega (arith, valid.capacity.most));
   ctime = decimal_short r.ctime valid.ctime;
   generation = decimal_short r.generation (omega (arith, valid.generation));
   description = valid.description;
@@ -298,3 +268,14 @@ is_short version r valid =
     let ps = volume_pairs (version == 5) r.merged r in
     let whole : length (volume_text version r) ≡ length (text_of ps ++ codes "EOF\n") = ap length (text_is version r) in
     omega (arith, whole, length-append (text_of ps) (codes "EOF\n"), length-text_of ps, few (version == 5) r.merged r (short r valid))
+
+pub reads_back : (version : ℕ) (r : VolumeRecord) → IsValid r → read_volume version r.domain r.image (volume_text version r) ≡ Ok r
+unfolding read_volume shape_fault
+reads_back version r valid =
+    let fits = le-leb (length (volume_text version r)) 8192 (is_short version r valid) in
+    let five = version == 5 in
+    let ps = volume_pairs five r.merged r in
+    let all = all_writable five r.merged r valid in
+    let said = says five r.merged r refl in
+    let found : pairs (text_of ps ++ codes "EOF\n") ≡ ps = ap (filter_map result_ok) (items_closed ps all) ∙ all_pairs ps in
+    rw (fits, text_is version r, eof_closed ps all, found, items_closed ps all, no_bad_line ps, none_missing r ps valid five said) (ap with_fault (fields_back r ps valid five said))

@@ -1,6 +1,5 @@
 pub mod Values
 pub mod Read
-pub mod Gives
 pub mod Shown
 pub mod Text
 pub mod Valid

@@ -1,5 +1,5 @@
 -- Records whose fields are in their ranges.
-use Rattle.std.specs.Prelude.{◌≡◌, ◌≤◌, ◌<◌, ◌%◌, ◌^◌, Bool, false, length}
+use Rattle.std.specs.Prelude.{◌≡◌, ℕ, ◌≤◌, ◌<◌, ◌%◌, ◌^◌, Bool, false, length}
 use Rattle.kv_text.specs.Text.{IsOneLine}
 use Rattle.sd_names.specs.Id.{IsIdBytes}
 use Rattle.sd_names.specs.declared.kinds.Legality.{Legality}
@@ -11,11 +11,15 @@ abbrev pub MayBeMerged : Legality → Bool → Type 0
 MayBeMerged Legal merged = merged ≡ false
 MayBeMerged Illegal merged = Unit {0}
 
+-- a capacity in bytes: a multiple of 512, 512 to 1 TiB
+pub record IsCapacity (n : ℕ) : Type 0 where
+  pub blocks : n % 512 ≡ 0
+  pub least : 512 ≤ n
+  pub most : n ≤ 2 ^ 40
+
 -- each field is in its range, and no text has a line feed
 pub record IsValid (r : VolumeRecord) : Type 0 where
-  pub blocks : r.capacity % 512 ≡ 0
-  pub least : 512 ≤ r.capacity
-  pub most : r.capacity ≤ 2 ^ 40
+  pub capacity : IsCapacity r.capacity
   pub ctime : r.ctime < 2 ^ 64
   pub description : length r.description ≤ 4096
   pub description_line : IsOneLine r.description

@@ -25,10 +25,6 @@ size_of value =
 unfoldable pub generation_of : List ℕ → Option ℕ
 generation_of value = option_and_then (λ n. if nat_le n 999 then Some n else None) (number_of value)
 
--- DESCRIPTION: at most 4,096 bytes
-unfoldable pub description_of : List ℕ → Option (List ℕ)
-description_of value = if nat_le (length value) 4096 then Some value else None
-
 -- DISKTYPE: 1 to 16 bytes
 unfoldable pub disk_type_of : List ℕ → Option (List ℕ)
 disk_type_of value = if nat_le 1 (length value) && nat_le (length value) 16 then Some value else None

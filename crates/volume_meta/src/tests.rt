@@ -93,10 +93,10 @@ fn other_faults(rt: HostRuntime) -> Result<(), AllocError> {
     Ok(())
 }
 
-// A text of 8,192 bytes, and one of a byte more: the length isn't looked at, since whoever read the file knows it.
+// A text of 8,192 bytes, and one of a byte more.
 #[test]
 fn long_texts(rt: HostRuntime) -> Result<(), AllocError> {
-    for len in [8192, 8193] {
+    for (len, want) in [(8192, ""), (8193, "TooLong")] {
         let mut text = Vec::new(rt.alloc());
         text.extend_from_slice(b"SEQ=")?;
         for _ in 0..len - 259 {
@@ -105,7 +105,7 @@ fn long_texts(rt: HostRuntime) -> Result<(), AllocError> {
         text.extend_from_slice(b"\n")?;
         text.extend_from_slice(FIVE.as_bytes())?;
         assert_eq!(rt; text.len(), len);
-        assert_eq!(rt; word_of(rt.alloc(), 5, &text), "");
+        assert_eq!(rt; word_of(rt.alloc(), 5, &text), want);
     }
     Ok(())
 }

@@ -1,7 +1,8 @@
 // What the values of a volume's keys mean.
 ghost use Rattle.std.specs.Prelude.{◌≡◌, ◌≤◌, length, IfSome};
 ghost use Rattle.std.specs.Option.{option_map};
-ghost use Rattle.volume_meta.specs.Values.{capacity_of, size_of, generation_of, description_of, disk_type_of, format_of, legality_of, kind_of, voltype_of, merged_of};
+ghost use Rattle.volume_meta.specs.Values.{capacity_of, size_of, generation_of, disk_type_of, format_of, legality_of, kind_of, voltype_of, merged_of};
+ghost use Rattle.volume_meta.specs.Valid.{IsCapacity, MayBeMerged};
 
 use kv_text::read_number;
 use sd_names::{AllocKind, Format, Legality, VolType};
@@ -14,7 +15,8 @@ const MOST_BLOCKS: u64 = 1 << 31;
 
 #[tactic(auto, unfolding(crate::specs::Values::capacity_of))]
 pub fn capacity(value: &[u8]) -> Option<u64>
-    ensures { result ≡ capacity_of value.now }
+    ensures value { result ≡ capacity_of value.now }
+    ensures valid { IfSome result IsCapacity }
 {
     let bytes = read_number(value)?;
     if bytes % 512 == 0 && bytes >= 512 && bytes <= MOST_CAPACITY {
@@ -26,7 +28,8 @@ pub fn capacity(value: &[u8]) -> Option<u64>
 
 #[tactic(auto, unfolding(crate::specs::Values::size_of))]
 pub fn size(value: &[u8]) -> Option<u64>
-    ensures { result ≡ size_of value.now }
+    ensures value { result ≡ size_of value.now }
+    ensures valid { IfSome result IsCapacity }
 {
     let blocks = read_number(value)?;
     if blocks >= 1 && blocks <= MOST_BLOCKS {
@@ -38,7 +41,8 @@ pub fn size(value: &[u8]) -> Option<u64>
 
 #[tactic(auto, unfolding(crate::specs::Values::generation_of))]
 pub fn generation(value: &[u8]) -> Option<u16>
-    ensures { result ≡ generation_of value.now }
+    ensures value { result ≡ generation_of value.now }
+    ensures valid { IfSome result (λ n. n ≤ 999) }
 {
     let number = read_number(value)?;
     if number <= 999 {
@@ -48,22 +52,12 @@ pub fn generation(value: &[u8]) -> Option<u16>
     }
 }
 
-#[tactic(auto, unfolding(crate::specs::Values::description_of))]
-pub fn description(value: &[u8]) -> Option<&[u8]>
-    ensures value { option_map (λ bytes. bytes.now) result ≡ description_of value.now }
-    ensures short { IfSome result (λ bytes. length bytes.now ≤ 4096) }
-{
-    if value.len() <= 4096 {
-        Some(value)
-    } else {
-        None
-    }
-}
-
 #[tactic(auto, unfolding(crate::specs::Values::disk_type_of))]
 pub fn disk_type(value: &[u8]) -> Option<&[u8]>
     ensures value { option_map (λ bytes. bytes.now) result ≡ disk_type_of value.now }
     ensures short { IfSome result (λ bytes. length bytes.now ≤ 16) }
+    ensures some { IfSome result (λ bytes. 1 ≤ length bytes.now) }
+    ensures same { IfSome result (λ bytes. bytes.now ≡ value.now) }
 {
     if value.len() >= 1 && value.len() <= 16 {
         Some(value)
@@ -126,7 +120,8 @@ pub fn voltype(value: &[u8]) -> Option<VolType>
 
 #[tactic(auto, unfolding(crate::specs::Values::merged_of))]
 pub fn merged(legality: Legality, value: &[u8]) -> Option<bool>
-    ensures { result ≡ merged_of legality value.now }
+    ensures value { result ≡ merged_of legality value.now }
+    ensures valid { IfSome result (MayBeMerged legality) }
 {
     match legality {
         Legality::Legal => None,
