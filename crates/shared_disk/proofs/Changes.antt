@@ -10,9 +10,9 @@ use Rattle.shared_disk.proofs.Places.{not_false}
 use Rattle.shared_disk.proofs.Outcomes.{contains_here, contains_more, cons_cases, nothing_in, no_host}
 
 -- a write of another sector among some
-record IsApart (sector : ℕ) (ls : List Loose) (m : Loose) : Type 0 where
-  among : Contains ls m
-  other : m.sector ≢ sector
+pub record IsApart (sector : ℕ) (ls : List Loose) (m : Loose) : Type 0 where
+  pub among : Contains ls m
+  pub other : m.sector ≢ sector
 
 apart_step : (sector : ℕ) (l m : Loose) (ls : List Loose) (t : Bool) → (l.sector == sector) ≡ t → (Contains (apart_from sector ls) m → IsApart sector ls m)
     → Contains (apart_from sector (l ∷ ls)) m → IsApart sector (l ∷ ls) m
@@ -26,7 +26,7 @@ apart_step sector l m ls false t more h =
       | inr g ↦ (let w = more g in record { among = contains_more l m ls w.among; other = w.other })
     ]
 
-apart_among : (sector : ℕ) (ls : List Loose) (m : Loose) → Contains (apart_from sector ls) m → IsApart sector ls m
+pub apart_among : (sector : ℕ) (ls : List Loose) (m : Loose) → Contains (apart_from sector ls) m → IsApart sector ls m
 apart_among sector [] m h = absurd (nothing_in m h)
 apart_among sector (l ∷ ls) m h = apart_step sector l m ls (l.sector == sector) refl (apart_among sector ls m) h
 

@@ -7,3 +7,5 @@ pub mod AtPlace
 pub mod NameOutcomes
 pub mod Toolkit
 pub mod FolderOutcomes
+pub mod WellFormed
+pub mod WellFormedFolders

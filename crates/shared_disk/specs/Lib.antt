@@ -5,6 +5,7 @@ pub mod Refusal
 pub mod Step
 pub mod Places
 pub mod Crash
+pub mod WellFormed
 pub mod Changes
 pub mod SectorCalls
 pub mod NameCalls

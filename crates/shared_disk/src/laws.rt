@@ -1,11 +1,18 @@
 // Laws of the disk's definitions: contracts of functions that do nothing.
-ghost use Rattle.std.specs.Prelude.{◌≡◌, ℕ, ◌+◌, ◌-◌, ◌<◌, ◌≤◌, ◌⊎◌, ◌++◌, ◌≢◌, Bool, true, Contains, List, [], Option, None, Some, unwrap_or};
+ghost use Rattle.std.specs.Prelude.{◌≡◌, ℕ, ◌+◌, ◌-◌, ◌<◌, ◌≤◌, ◌⊎◌, ◌++◌, ◌≢◌, All, Bool, true, Contains, List, [], Option, None, Some, Result, Ok, unwrap_or};
+ghost use Rattle.sd_names.specs.declared.place.Dir.{Dir};
+ghost use Rattle.sd_names.specs.declared.place.Dir.TheVariants.{Root};
+ghost use Rattle.sd_names.specs.declared.place.Name.{Name};
 ghost use Rattle.sd_names.specs.declared.place.Place.{Place};
-ghost use Rattle.shared_disk.specs.Calls.{IsPut, synced, wrote};
+ghost use Rattle.shared_disk.specs.declared.disk.DiskAnswer.{DiskAnswer};
+ghost use Rattle.shared_disk.specs.declared.disk.Exchanged.{Exchanged};
+ghost use Rattle.shared_disk.specs.Calls.{Creates, IsPut, MakesDir, Syncs, WriteAt, synced, wrote};
 ghost use Rattle.shared_disk.specs.Changes.{IsChangedAt, exchanged, raised};
-ghost use Rattle.shared_disk.specs.Content.{Content, File, Loose, Sees, own_of, seen, without, writes, sector_of, zero_sector};
-ghost use Rattle.shared_disk.specs.NameCalls.{IsRenamed};
-ghost use Rattle.shared_disk.specs.Crash.{AllDown, Covers, DownLeaves, IsAlone, IsDownFile, IsFileOutcome, IsLaidOver, IsOutcome, IsOutcomeSector, IsSettled, stable_folder, with_file};
+ghost use Rattle.shared_disk.specs.Content.{Content, File, IsEmpty, Loose, Sees, own_of, seen, without, writes, sector_of, zero_sector};
+ghost use Rattle.shared_disk.specs.NameCalls.{AreImageDirs, HasEntry, IsRenamed, MovesDir, Removes, RemovesDir, Renames};
+ghost use Rattle.shared_disk.specs.SectorCalls.{Exchanges, Grows};
+ghost use Rattle.shared_disk.specs.Crash.{AllDown, Covers, DownLeaves, IsAlone, IsDownFile, IsFileOutcome, IsLaidOver, IsOutcome, IsOutcomeSector, IsSector, IsSettled, stable_folder, with_file};
+ghost use Rattle.shared_disk.specs.WellFormed.{IsHost, IsWellFormed, IsWellFormedFile};
 
 /// What a host that is alone in a file sees of a sector, and a sync puts onto the medium, after it wrote a piece: the
 /// piece's sectors where the write was done whole, and what was there (`before`) elsewhere. Where only some sectors
@@ -96,6 +103,30 @@ pub fn outcome_after_a_removal()
 /// Outcomes of two files are on one outcome of their folder.
 pub fn outcomes_of_two_files()
     ensures { (d : Content) (p q : Place) (f g x y : File) → d.file p ≡ Some f → d.file q ≡ Some g → IsFileOutcome f x → IsFileOutcome g y → IsOutcome d (with_file p x (with_file q y (stable_folder d))) }
+{}
+
+/// A folder that is well formed stays so: each call keeps it, whatever its answer, and each crash.
+pub fn each_call_keeps_a_folder_well_formed()
+    ensures write_at { (d e : Content) (host at : ℕ) (p : Place) (bytes : List ℕ) (answer : Result (Unit {0}) DiskAnswer) → IsHost host → All (λ b. b < 256) bytes → IsWellFormed d → WriteAt d host p at bytes answer e → IsWellFormed e }
+    ensures sync { (d e : Content) (host : ℕ) (p : Place) (answer : Result (Unit {0}) DiskAnswer) → IsWellFormed d → Syncs d host p answer e → IsWellFormed e }
+    ensures create { (d e : Content) (host size : ℕ) (p : Place) (answer : Result (Unit {0}) DiskAnswer) → IsHost host → IsWellFormed d → Creates d host p size answer e → IsWellFormed e }
+    ensures grow { (d e : Content) (size : ℕ) (p : Place) (answer : Result (Unit {0}) DiskAnswer) → IsWellFormed d → Grows d p size answer e → IsWellFormed e }
+    ensures exchange { (d e : Content) (host sector : ℕ) (p : Place) (expect next : List ℕ) (answer : Result Exchanged DiskAnswer) → IsSector next → IsWellFormed d → Exchanges d host p sector expect next answer e → IsWellFormed e }
+    ensures rename { (d e : Content) (from : Place) (to : Name) (answer : Result (Unit {0}) DiskAnswer) → IsWellFormed d → Renames d from to answer e → IsWellFormed e }
+    ensures remove { (d e : Content) (p : Place) (answer : Result (Unit {0}) DiskAnswer) → IsWellFormed d → Removes d p answer e → IsWellFormed e }
+    ensures make_dir { (d e : Content) (dir : Dir) (answer : Result (Unit {0}) DiskAnswer) → IsWellFormed d → MakesDir d dir answer e → IsWellFormed e }
+    ensures remove_dir { (d e : Content) (dir : Dir) (answer : Result (Unit {0}) DiskAnswer) → dir ≢ Root → IsWellFormed d → RemovesDir d dir answer e → IsWellFormed e }
+    ensures move_dir { (d e : Content) (from to : Dir) (answer : Result (Unit {0}) DiskAnswer) → AreImageDirs from to → IsWellFormed d → MovesDir d from to answer e → IsWellFormed e }
+    ensures down { (d e : Content) (host : ℕ) → IsWellFormed d → DownLeaves d host e → IsWellFormed e }
+    ensures outcome { (d o : Content) → IsWellFormed d → IsOutcome d o → IsWellFormed o }
+{}
+
+/// What follows where a folder is well formed: a folder that was just made is empty, and a host sees a sector of bytes at
+/// each place of a file. A folder that is empty but for its root is well formed.
+pub fn what_is_well_formed()
+    ensures new { (d e : Content) (dir : Dir) → IsWellFormed d → MakesDir d dir (Ok tt) e → HasEntry e dir → ⊥ }
+    ensures seen { (host k : ℕ) (f : File) → IsWellFormedFile f → IsSector (seen host f k) }
+    ensures empty { (d : Content) → IsEmpty d → IsWellFormed d }
 {}
 
 /// A host sees one value of each sector of a file in which no other host has unsynced writes.
