@@ -1,5 +1,5 @@
 // The trait of a shared folder: what its calls answer and leave.
-ghost use Rattle.std.specs.Prelude.{◌≡◌, ◌≢◌, ℕ, ◌+◌, ◌-◌, ◌*◌, ◌/◌, ◌^◌, ◌≤◌, min, Option, length, IfOk};
+ghost use Rattle.std.specs.Prelude.{◌≡◌, ◌≢◌, ℕ, ◌+◌, ◌-◌, ◌*◌, ◌/◌, ◌^◌, ◌≤◌, min, Option, Some, length, IfOk};
 ghost use Rattle.sd_names.specs.declared.place.Dir.TheVariants.{Root};
 ghost use Rattle.shared_disk.specs.Content.{Content};
 ghost use Rattle.sd_names.specs.declared.place.Place.{Place};
@@ -7,6 +7,7 @@ ghost use Rattle.shared_disk.specs.declared.disk.Exchanged.TheVariants.{Found};
 ghost use Rattle.shared_disk.specs.Crash.{DownLeaves};
 ghost use Rattle.shared_disk.specs.NameCalls.{AnswersDirAbove, AnswersNameAbove, AreImageDirs, MovesDir, NextDir, NextName, Removes, RemovesDir, Renames};
 ghost use Rattle.shared_disk.specs.SectorCalls.{Exchanges, Grows};
+ghost use Rattle.shared_disk.specs.WellFormed.{IsWellFormed};
 ghost use Rattle.shared_disk.specs.Limits.{IsSameRoom, KeepsLimits, Limits, adds, adds_at_most, frees};
 ghost use Rattle.shared_disk.specs.Calls.{IsAligned, IsPiece, ReadAt, WriteAt, Syncs, Creates, HasLength, MakesDir, Told, HasCause};
 
@@ -209,4 +210,8 @@ pub trait SharedDisk {
     /// The count of faults. It isn't a call of the disk and changes nothing.
     fn fault_count(&self) -> u64
         ensures { result ≡ faults self.now };
+
+    /// What a disk tells of its content has the root, the folder of each folder and of each file, and in its files
+    /// sectors of 512 bytes and unsynced writes of hosts that lie within the file.
+    ghost well_formed: { (disk : Self) (d : Content) → content disk ≡ Some d → IsWellFormed d };
 }
