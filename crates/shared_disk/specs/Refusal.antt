@@ -1,6 +1,6 @@
 -- The refusal that stands for a disk's answer, at a count of faults.
 use Rattle.std.specs.Prelude.{◌≡◌, ℕ}
-use Rattle.sd_names.specs.declared.turn.Absence.TheVariants as absence
+use Rattle.sd_names.specs.declared.absence.Absence.TheVariants as absence
 use Rattle.sd_names.specs.declared.refusal.Refusal.{Refusal}
 use Rattle.sd_names.specs.declared.refusal.Refusal.TheVariants.{DiskFault, Vanished}
 use Rattle.shared_disk.specs.Calls.{Rose}
