@@ -5,7 +5,9 @@ pub mod OwnWrites
 pub mod Outcomes
 pub mod AtPlace
 pub mod NameOutcomes
+pub mod Others
 pub mod Toolkit
+pub mod Refusals
 pub mod FolderOutcomes
 pub mod WellFormed
 pub mod WellFormedFolders

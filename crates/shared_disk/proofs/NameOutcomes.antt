@@ -62,7 +62,7 @@ own_step host k l m ls true false s t by at h more e =
 own_step host k l m ls false b s t by at h more e =
     elim (cons_cases m l ls h) [ inl u ↦ false≢true (sym s ∙ eq-eqb m.host host (ap (λ (x : Loose). x.host) u ∙ by)) | inr g ↦ more g (rw s at e) ]
 
-own_there : (host k : ℕ) (l : Loose) (ls : List Loose) → l.host ≡ host → l.sector ≡ k → Contains ls l → own_of host k ls ≡ None → ⊥
+pub own_there : (host k : ℕ) (l : Loose) (ls : List Loose) → l.host ≡ host → l.sector ≡ k → Contains ls l → own_of host k ls ≡ None → ⊥
 own_there host k l [] by at h e = nothing_in l h
 own_there host k l (m ∷ ls) by at h e = own_step host k l m ls (m.host == host) (m.sector == k) refl refl by at h (λ g u. own_there host k l ls by at g u) e
 

@@ -281,7 +281,7 @@ apart_step host l m ls false t more h =
       | inr g ↦ more g
     ]
 
-without_apart : (host : ℕ) (ls : List Loose) (m : Loose) → Contains (without host ls) m → m.host ≢ host
+pub without_apart : (host : ℕ) (ls : List Loose) (m : Loose) → Contains (without host ls) m → m.host ≢ host
 without_apart host [] m h = absurd (nothing_in m h)
 without_apart host (l ∷ ls) m h = apart_step host l m ls (l.host == host) refl (without_apart host ls m) h
 

@@ -16,7 +16,7 @@ own_other host s k b ls e = rw (eq-eqb host host refl, e) refl
 same_passes : (a b : ℕ) → a ≡ b → (a == b) ≡ true
 same_passes a b e = eq-eqb a b e
 
-others_fail : (a b : ℕ) → a ≢ b → (a == b) ≡ false
+pub others_fail : (a b : ℕ) → a ≢ b → (a == b) ≡ false
 others_fail a b e = not_true (a == b) (λ t. e (eqb-true a b t))
 
 -- a test that fails behind another

@@ -8,7 +8,8 @@ use Rattle.sd_names.specs.declared.place.Place.{Place}
 use Rattle.shared_disk.specs.Calls.{Creates, IsCreated, IsPut, IsSame, PartWritten, Syncs, WriteAt, created, synced, wrote}
 use Rattle.shared_disk.specs.Changes.{IsChangedAt, apart_from, exchanged, grown}
 use Rattle.shared_disk.specs.Content.{Content, File, Loose, Sees, own_of, seen}
-use Rattle.shared_disk.specs.Crash.{DownLeaves, IsAlone, IsAlso, IsFileOutcome, IsLaidOver, IsOutcome, IsSettled, with_file}
+use Rattle.shared_disk.specs.Crash.{DownLeaves, IsAlone, IsAloneAt, IsAlso, IsDownFile, IsFileOutcome, IsLaidOver, IsOutcome, IsSettled, IsSettledFor, with_file}
+pub use Rattle.shared_disk.specs.Crash.{IsFromBefore}
 use Rattle.shared_disk.specs.NameCalls.{IsRemoved, IsRenamed, Removes, Renames, place_in}
 use Rattle.shared_disk.specs.Places.{place_is}
 use Rattle.shared_disk.specs.SectorCalls.{Exchanges, Grows, IsExchanged}
@@ -16,19 +17,10 @@ use Rattle.shared_disk.specs.declared.disk.DiskAnswer.TheVariants.{Failed}
 use Rattle.shared_disk.specs.declared.disk.Exchanged.TheVariants.{Done}
 use Rattle.shared_disk.proofs.AtPlace.{also_none, also_some, one_file, put_same, settled_stays}
 use Rattle.shared_disk.proofs.Changes.{exchanged_file}
-use Rattle.shared_disk.proofs.NameOutcomes.{rename_outcome}
+use Rattle.shared_disk.proofs.NameOutcomes.{down_same, rename_outcome}
+use Rattle.shared_disk.proofs.Others.{alone_at_file}
 use Rattle.shared_disk.proofs.Outcomes.{alone_file, down_folder, frame, nothing_in, settled_itself, synced_file, with_here, write_file}
 use Rattle.shared_disk.proofs.Places.{place_is-apart, place_is-itself, place_is-same}
-
--- An outcome is one from before but for the file at a place, which is related to the one that stood there.
-pub record IsFromBefore (d : Content) (p : Place) (R : File → File → Type 0) (o : Content) : Type 0 where
-  pub before : Content
-  pub outcome : IsOutcome d before
-  pub was : File
-  pub is : File
-  pub there : before.file p ≡ Some was
-  pub related : R was is
-  pub put : IsPut before p (Some is) o
 
 -- An outcome is one from before but for what stands at a place, which was the first of these and is the second.
 pub record IsPutBefore (d : Content) (p : Place) (was is : Option File) (o : Content) : Type 0 where
@@ -101,6 +93,14 @@ sync_alone_on_each d e o host p f there alone w out =
     let here : e.file p ≡ Some (synced host f) = w.2.here ∙ ap (λ (x : File). Some (synced host x)) (one_file w.0 f (d.file p) w.1 there) in
     let now = also_some IsFileOutcome (e.file p) (o.file p) (synced host f) (out.files p) here in
     (now.0, now.1, record { size = now.2.size; sectors = alone_file host f now.0 alone now.2; settled = now.2.settled })
+
+-- the same of one sector, where other hosts write other sectors of the file
+pub sync_at_on_each : (d e o : Content) (host k : ℕ) (p : Place) (f : File) → d.file p ≡ Some f → IsAloneAt host k f → Syncs d host p (Ok tt) e → IsOutcome e o
+    → (g : File) × (o.file p ≡ Some g) × (g.size ≡ f.size) × (g.stable k ≡ seen host f k)
+sync_at_on_each d e o host k p f there alone w out =
+    let here : e.file p ≡ Some (synced host f) = w.2.here ∙ ap (λ (x : File). Some (synced host x)) (one_file w.0 f (d.file p) w.1 there) in
+    let now = also_some IsFileOutcome (e.file p) (o.file p) (synced host f) (out.files p) here in
+    (now.0, now.1, now.2.size, alone_at_file host k f now.0 alone now.2)
 
 -- a change of what stands at a place, whichever outcome it had there
 put_at : (d e o : Content) (p q : Place) (was new : Option File) (t : Bool) → place_is q p ≡ t → IsAlso IsFileOutcome (d.file p) was → IsPut d p new e → IsOutcome e o
@@ -232,6 +232,14 @@ exchange_unsettled_on_each d e o host sector p expect next f there old w out =
     let put : IsPut d p (Some (exchanged sector next f)) e = subst (λ (g : File). IsPut d p (Some (exchanged sector next g)) e) (one_file w.0 f (d.file p) w.1 there) w.4 in
     changed_on_each d e o p f (exchanged sector next f) (IsChangedAt sector next) there put (λ y is. exchanged_file sector next f y old is) out
 
--- down: no outcome is new
+-- down: a file in which the host has nothing unsynced is as it was, and no outcome is new
+pub down_leaves_file : (d e : Content) (host : ℕ) (p : Place) (f : File) → DownLeaves d host e → d.file p ≡ Some f → IsSettledFor host f → e.file p ≡ Some f
+down_leaves_file d e host p f down there settled =
+    let now = also_some (IsDownFile host) (d.file p) (e.file p) f (down.files p) there in
+    now.1 ∙ ap (λ (x : File). Some x) (down_same host f now.0 settled.loose settled.fresh now.2)
+
+pub down_leaves_none : (d e : Content) (host : ℕ) (p : Place) → DownLeaves d host e → d.file p ≡ None → e.file p ≡ None
+down_leaves_none d e host p down gone = also_none (IsDownFile host) (d.file p) (e.file p) (down.files p) gone
+
 pub down_on_each : (d e o : Content) (host : ℕ) → DownLeaves d host e → IsOutcome e o → IsOutcome d o
 down_on_each d e o host down out = down_folder host d e o down out

@@ -1,9 +1,9 @@
 -- What crashes of hosts may leave of a folder.
-use Rattle.std.specs.Prelude.{◌≡◌, ◌⊎◌, ℕ, ◌+◌, ◌-◌, ◌<◌, ◌≤◌, Bool, true, if◌then◌else◌, List, [], ◌∷◌, Option, Some, None, length, All, Contains}
+use Rattle.std.specs.Prelude.{◌≡◌, ◌≢◌, ◌⊎◌, ℕ, ◌+◌, ◌-◌, ◌<◌, ◌≤◌, Bool, true, if◌then◌else◌, List, [], ◌∷◌, Option, Some, None, length, All, Contains}
 use Rattle.sd_names.specs.declared.place.Dir.{Dir}
 use Rattle.sd_names.specs.declared.place.Place.{Place}
 use Rattle.shared_disk.specs.Content.{Content, File, Loose, IsLooseAt, without, unless_by, sector_of}
-use Rattle.shared_disk.specs.Calls.{sectors_in}
+use Rattle.shared_disk.specs.Calls.{IsPut, sectors_in}
 use Rattle.shared_disk.specs.Places.{place_is}
 use Rattle.std.specs.Option.{option_map}
 
@@ -83,6 +83,16 @@ pub record IsAlone (host : ℕ) (f : File) : Type 0 where
   pub loose : without host f.loose ≡ []
   pub fresh : unless_by host f.fresh ≡ None
 
+-- no host but this one has unsynced writes of this sector, or has made the file and not synced it
+pub record IsAloneAt (host sector : ℕ) (f : File) : Type 0 where
+  pub loose : (l : Loose) → Contains f.loose l → l.sector ≡ sector → l.host ≡ host
+  pub fresh : unless_by host f.fresh ≡ None
+
+-- The host has nothing unsynced in the file: no write, and it hasn't made the file.
+pub record IsSettledFor (host : ℕ) (f : File) : Type 0 where
+  pub loose : (l : Loose) → Contains f.loose l → l.host ≢ host
+  pub fresh : f.fresh ≢ Some host
+
 -- A sector of a piece that was written: it is in the piece's range, and was one of those that were done.
 pub record IsPieceSector (did : ℕ → Bool) (at : ℕ) (bytes : List ℕ) (sector : ℕ) (is : List ℕ) : Type 0 where
   pub low : at ≤ sector
@@ -94,6 +104,16 @@ pub record IsPieceSector (did : ℕ → Bool) (at : ℕ) (bytes : List ℕ) (sec
 pub record IsLaidOver (did : ℕ → Bool) (at : ℕ) (bytes : List ℕ) (f g : File) : Type 0 where
   pub size : g.size ≡ f.size
   pub sectors : (k : ℕ) → (g.stable k ≡ f.stable k) ⊎ IsPieceSector did at bytes k (g.stable k)
+
+-- An outcome is one from before but for the file at a place, which is related to the one that stood there.
+pub record IsFromBefore (d : Content) (p : Place) (R : File → File → Type 0) (o : Content) : Type 0 where
+  pub before : Content
+  pub outcome : IsOutcome d before
+  pub was : File
+  pub is : File
+  pub there : before.file p ≡ Some was
+  pub related : R was is
+  pub put : IsPut before p (Some is) o
 
 -- each host with something unsynced in the file is among these
 pub record CoversFile (hosts : List ℕ) (f : File) : Type 0 where

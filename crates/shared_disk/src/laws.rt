@@ -5,13 +5,16 @@ ghost use Rattle.sd_names.specs.declared.place.Dir.TheVariants.{Root};
 ghost use Rattle.sd_names.specs.declared.place.Name.{Name};
 ghost use Rattle.sd_names.specs.declared.place.Place.{Place};
 ghost use Rattle.shared_disk.specs.declared.disk.DiskAnswer.{DiskAnswer};
+ghost use Rattle.shared_disk.specs.declared.disk.DiskAnswer.TheVariants.{Failed};
 ghost use Rattle.shared_disk.specs.declared.disk.Exchanged.{Exchanged};
-ghost use Rattle.shared_disk.specs.Calls.{Creates, IsPut, MakesDir, Syncs, WriteAt, synced, wrote};
+ghost use Rattle.shared_disk.specs.Calls.{Creates, IsPut, MakesDir, Rose, Syncs, WriteAt, synced, wrote};
 ghost use Rattle.shared_disk.specs.Changes.{IsChangedAt, exchanged, raised};
 ghost use Rattle.shared_disk.specs.Content.{Content, File, IsEmpty, Loose, Sees, own_of, seen, without, writes, sector_of, zero_sector};
 ghost use Rattle.shared_disk.specs.NameCalls.{AreImageDirs, HasEntry, IsRenamed, MovesDir, Removes, RemovesDir, Renames};
+ghost use Rattle.shared_disk.specs.Refusal.{IsRisen, refusal_of};
 ghost use Rattle.shared_disk.specs.SectorCalls.{Exchanges, Grows};
-ghost use Rattle.shared_disk.specs.Crash.{AllDown, Covers, DownLeaves, IsAlone, IsDownFile, IsFileOutcome, IsLaidOver, IsOutcome, IsOutcomeSector, IsSector, IsSettled, stable_folder, with_file};
+ghost use Rattle.shared_disk.specs.Step.{IsDiskRefusal};
+ghost use Rattle.shared_disk.specs.Crash.{AllDown, Covers, DownLeaves, IsAlone, IsAloneAt, IsDownFile, IsFileOutcome, IsLaidOver, IsOutcome, IsOutcomeSector, IsSector, IsSettled, IsSettledFor, stable_folder, with_file};
 ghost use Rattle.shared_disk.specs.WellFormed.{IsHost, IsWellFormed, IsWellFormedFile};
 
 /// What a host that is alone in a file sees of a sector, and a sync puts onto the medium, after it wrote a piece: the
@@ -35,10 +38,13 @@ pub fn outcome_after_a_write()
 {}
 
 /// An outcome of a file after a sync is an outcome from before. Where no other host has anything unsynced in it, it is
-/// the file as the host saw it.
+/// the file as the host saw it; so is each sector of which no other host has an unsynced write, where no other host has
+/// made the file and not synced it.
 pub fn outcome_after_a_sync()
     ensures before { (host : ℕ) (f g : File) → IsFileOutcome (synced host f) g → IsFileOutcome f g }
     ensures alone { (host : ℕ) (f g : File) → IsAlone host f → IsFileOutcome (synced host f) g → (k : ℕ) → g.stable k ≡ seen host f k }
+    ensures sector { (host k : ℕ) (f g : File) → IsAloneAt host k f → IsFileOutcome (synced host f) g → g.stable k ≡ seen host f k }
+    ensures everywhere { (host k : ℕ) (f : File) → IsAlone host f → IsAloneAt host k f }
 {}
 
 /// An outcome after a host went down is an outcome from before, of a file and of a folder.
@@ -134,7 +140,28 @@ pub fn a_host_alone_sees_one_value()
     ensures { (host k : ℕ) (f : File) (bytes : List ℕ) → without host f.loose ≡ [] → Sees host f k bytes → bytes ≡ seen host f k }
 {}
 
-/// A host that goes down leaves a file as it is in which it has nothing unsynced.
+/// A host that goes down leaves a file as it is in which it has nothing unsynced, and no file where none was.
 pub fn a_settled_host_leaves_a_file()
-    ensures { (host : ℕ) (f g : File) → ((l : Loose) → Contains f.loose l → l.host ≢ host) → f.fresh ≢ Some host → IsDownFile host f g → g ≡ f }
+    ensures file { (host : ℕ) (f g : File) → IsSettledFor host f → IsDownFile host f g → g ≡ f }
+    ensures there { (d e : Content) (host : ℕ) (p : Place) (f : File) → DownLeaves d host e → d.file p ≡ Some f → IsSettledFor host f → e.file p ≡ Some f }
+    ensures none { (d e : Content) (host : ℕ) (p : Place) → DownLeaves d host e → d.file p ≡ None → e.file p ≡ None }
+{}
+
+/// What a host sees of a sector stays when another host writes in the file. It stays when that host syncs the file or
+/// goes down, where it has no write of the sector and, going down, hasn't made the file; and it stays when another
+/// sector is exchanged and when the file is raised.
+pub fn what_a_host_sees_stays()
+    ensures write { (did : ℕ → Bool) (host other at k : ℕ) (bytes : List ℕ) (f : File) → host ≢ other → seen host (wrote did other at bytes f) k ≡ seen host f k }
+    ensures sync { (host other k : ℕ) (f : File) → host ≢ other → own_of other k f.loose ≡ None → seen host (synced other f) k ≡ seen host f k }
+    ensures down { (host other k : ℕ) (f g : File) → host ≢ other → own_of other k f.loose ≡ None → f.fresh ≢ Some other → IsDownFile other f g → seen host g k ≡ seen host f k }
+    ensures exchange { (host sector k : ℕ) (next : List ℕ) (f : File) → k ≢ sector → seen host (exchanged sector next f) k ≡ seen host f k }
+    ensures raise { (host size k : ℕ) (f : File) → k < f.size → seen host (raised size f) k ≡ seen host f k }
+{}
+
+/// The refusal for an answer of a disk tells which answer it was, and comes as a fault only where the count of faults
+/// rose, where the disk answers `Failed` only there.
+pub fn a_refusal_stands_for_one_answer()
+    ensures one { (a b : DiskAnswer) (m n : ℕ) → refusal_of a m ≡ refusal_of b n → a ≡ b }
+    ensures of_disk { (a : DiskAnswer) (n : ℕ) → IsDiskRefusal (refusal_of a n) }
+    ensures risen { (a : DiskAnswer) (before after : ℕ) → (a ≡ Failed → Rose before after) → IsRisen before after (refusal_of a after) }
 {}
