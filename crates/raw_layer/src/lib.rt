@@ -1,6 +1,7 @@
 //! Raw volumes: a file that holds a volume's bytes one after the other, and zeros past its end.
 #![tactic(auto)]
 
+pub mod laws;
 mod raw;
 mod read;
 mod write;
