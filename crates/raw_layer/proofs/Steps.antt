@@ -1,12 +1,12 @@
 -- What the steps of a write leave on each outcome, by the answers of their calls.
-use Rattle.std.proofs.Common.{◌≡◌, ◌≢◌, ◌⊎◌, ℕ, ◌+◌, ◌-◌, ◌/◌, ◌<◌, ◌≤◌, Bool, true, false, nat_le, MatchBool, List, ◌++◌, length, Option, Some, None, Ok, Err, unwrap_or, refl, sym, ap, subst, ◌∙◌, inl, inr, arith}
+use Rattle.std.proofs.Common.{◌≡◌, ◌≢◌, ◌⊎◌, ℕ, ◌+◌, ◌-◌, ◌/◌, ◌<◌, ◌≤◌, Bool, true, false, nat_le, MatchBool, List, ◌++◌, length, Option, Some, None, Ok, Err, unwrap_or, ap, ◌∙◌, inl, inr, arith}
 use Rattle.sd_names.specs.declared.refusal.Refusal.{Refusal}
 use Rattle.sd_names.specs.declared.refusal.Refusal.TheVariants.{NoRoom}
 use Rattle.sd_names.specs.declared.turn.Turn.{Turn}
 use Rattle.sd_names.specs.declared.turn.Turn.TheVariants.{Done, Ended, More}
 use Rattle.shared_disk.specs.declared.disk.DiskAnswer.TheVariants.{NoFile, Exists, OutOfFile, NotEmpty, Failed}
-use Rattle.shared_disk.specs.Calls.{HasLength, Syncs, WriteAt, sectors_in, synced, wrote}
-use Rattle.shared_disk.specs.Content.{Content, File, own_of, seen, sector_of, writes}
+use Rattle.shared_disk.specs.Calls.{sectors_in, synced, wrote}
+use Rattle.shared_disk.specs.Content.{Content, File, own_of, sector_of, writes}
 use Rattle.shared_disk.specs.Crash.{IsDownFile, IsFileOutcome, IsFromBefore, IsLaidOver, IsOutcome}
 use Rattle.shared_disk.proofs.AtPlace.{also_some, one_file}
 use Rattle.shared_disk.proofs.Others.{alone_at_file, seen_after_down, seen_after_sync, seen_after_write}
