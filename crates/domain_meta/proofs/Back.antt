@@ -19,12 +19,13 @@ use Rattle.kv_text.specs.Lookup.{value_of}
 use Rattle.kv_text.specs.Text.{KeyValue, IsWritable, line, pairs, text_of, whole}
 use Rattle.kv_text.proofs.Line.{total, length-text_of}
 use Rattle.kv_text.proofs.ReadBack.{items_open, no_bad_line, all_pairs, empty_not}
-use Rattle.kv_text.proofs.ValuesBack.{number_of-decimal, decimal_short, id_of-id_text, this_id-id_text}
+use Rattle.kv_text.proofs.ValuesBack.{number_of-decimal, decimal_short, id_of-id_text, this_id-id_text, description_back}
 use Rattle.domain_meta.specs.Checksum.{checksum_of, in_order, is_covered}
-use Rattle.domain_meta.specs.Read.{checked_fields, fields_of, first_missing, needed_keys, read_domain, shape_fault, value}
+use Rattle.kv_text.specs.Keys.{first_missing, shape_fault, value}
+use Rattle.domain_meta.specs.Read.{checked_fields, fields_of, needed_keys, read_domain, with_fault}
 use Rattle.domain_meta.specs.Text.{domain_pairs, domain_text, domains_text, pair_of, role_text}
 use Rattle.domain_meta.specs.Valid.{IsValid}
-use Rattle.domain_meta.specs.Values.{class_of, description_of, master_version_of, role_of, version_of_role}
+use Rattle.domain_meta.specs.Values.{class_of, master_version_of, role_of, version_of_role}
 use Rattle.domain_meta.specs.declared.record.DomainRecord.{DomainRecord}
 use Rattle.domain_meta.proofs.Digests.{digest_back, hex_line, sha1_length}
 use Rattle.domain_meta.proofs.DomainsBack.{domains_back, domains_short}
@@ -48,10 +49,6 @@ text_is r =
     ∙ ap (λ (l : List ℕ). text_of (domain_pairs r) ++ l) (append-nil (line (key_name key.ShaCksum) (encode_lower (own r)))))
 
 -- what the values of written keys mean
-description_back : (d : List ℕ) → length d ≤ 4096 → description_of d ≡ Some d
-unfolding description_of
-description_back d h = rw (le-leb (length d) 4096 h) refl
-
 role_back : (role : Role) → role_of (role_text role) ≡ Some role
 unfolding role_of
 role_back Master = refl
@@ -125,7 +122,7 @@ module _ (r : DomainRecord) (valid : IsValid r) where
   found : pairs (text_of (pairs_of r)) ≡ pairs_of r
   found = ap (filter_map result_ok) (items_open (pairs_of r) all) ∙ all_pairs (pairs_of r)
 
-  shape_back : shape_fault (text_of (pairs_of r)) ≡ None
+  shape_back : shape_fault (text_of (pairs_of r)) needed_keys ≡ None
   unfolding shape_fault
   shape_back = rw (found, items_open (pairs_of r) all, no_bad_line (pairs_of r), none_missing r (pairs_of r) (says r)) refl
 
@@ -133,11 +130,7 @@ module _ (r : DomainRecord) (valid : IsValid r) where
   unfolding checked_fields
   checked_back =
       let digest = rw (← own_is) at (digest_back (concat (map whole (domain_pairs r)))) in
-      rw (found, (says r).checksum, digest, same_checksum, (bytes_eq-Decides (own r) (own r)).1 refl) (fields_back r (pairs_of r) valid (says r))
-
-pub reads_back : (r : DomainRecord) → IsValid r → read_domain r.sduuid (domain_text r) ≡ Ok r
-unfolding read_domain
-reads_back r valid = rw (text_is r, shape_back r valid) (checked_back r valid)
+      rw (found, (says r).checksum, digest, same_checksum, (bytes_eq-Decides (own r) (own r)).1 refl) (ap with_fault (fields_back r (pairs_of r) valid (says r)))
 
 role_short : (role : Role) → length (role_text role) ≤ 7
 role_short Master = omega arith
@@ -176,3 +169,9 @@ pub is_short : (r : DomainRecord) → IsValid r → length (domain_text r) ≤ 8
 is_short r valid =
     let whole : length (domain_text r) ≡ length (text_of (pairs_of r)) = ap length (text_is r) in
     omega (arith, whole, length-text_of (pairs_of r), few r (short r valid))
+
+pub reads_back : (r : DomainRecord) → IsValid r → read_domain r.sduuid (domain_text r) ≡ Ok r
+unfolding read_domain
+reads_back r valid =
+    let fits = le-leb (length (domain_text r)) 8192 (is_short r valid) in
+    rw (fits, text_is r, shape_back r valid) (checked_back r valid)

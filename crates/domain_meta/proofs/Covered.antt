@@ -1,8 +1,10 @@
 -- The lines that a checksum covers, line by line.
-use Rattle.std.proofs.Common.{◌≡◌, inl, inr, not, ℕ, Bool, true, false, cond, List, [], ◌∷◌, ◌++◌, refl, sym, ap, ◌∙◌, filter, map, append_assoc}
+use Rattle.std.proofs.Common.{◌≡◌, ◌+◌, ◌-◌, ◌<◌, ◌≤◌, inl, inr, not, ℕ, Bool, true, false, cond, List, [], ◌∷◌, ◌++◌, refl, sym, ap, ◌∙◌, arith, filter, length, length-drop, map, append_assoc}
+use Rattle.std.proofs.lemmas.Bool.{false≢true}
 use Rattle.std.specs.Borrow.{Bor}
-use Rattle.std.specs.List.{before_first, after_first, take_while}
-use Rattle.std.proofs.lemmas.List.{map-append}
+use Rattle.std.specs.List.{before_first, after_first, position_or_len, take_while}
+use Rattle.std.proofs.lemmas.List.{length-take-le, map-append}
+use Rattle.std.proofs.Math.ListN.{length-take}
 use Rattle.std.proofs.lemmas.List.Sums.{take_while-cons}
 use Rattle.kv_text.specs.Text.{lines, is_line_feed, is_eof}
 use Rattle.kv_text.proofs.Steps.{lines_first}
@@ -55,3 +57,21 @@ more_found found line left more all e f =
     ap (λ (ls : List (List ℕ)). ls ++ more) (map-append (λ l. l.now) found (line ∷ []))
     ∙ append_assoc (map (λ l. l.now) found) (line.now ∷ []) more
     ∙ ap (λ (ls : List (List ℕ)). map (λ l. l.now) found ++ ls) (sym f) ∙ e
+
+-- a line that is covered has a byte
+pub covered_some : (line : List ℕ) → is_covered line ≡ true → 1 ≤ length line
+covered_some [] e = absurd (false≢true e)
+covered_some (x ∷ xs) e = omega arith
+
+-- the first line is no longer than the text
+pub first_within : (text line : List ℕ) → line ≡ before_first is_line_feed text → length line ≤ length text
+first_within text line front =
+    omega (arith, ap length front, length-take (position_or_len is_line_feed text) text)
+
+-- with its line feed it is shorter than the text by what stands behind it
+pub first_short : (text line behind : List ℕ) → line ≡ before_first is_line_feed text → behind ≡ after_first is_line_feed text → 0 < length behind → length line + 1 + length behind ≡ length text
+first_short text line behind front after more =
+    let n = position_or_len is_line_feed text in
+    let left : length behind ≡ length text - (n + 1) = ap length after ∙ length-drop (n + 1) text in
+    let long : length line ≡ n = ap length front ∙ length-take-le n text (omega (arith, left, more)) in
+    omega (arith, left, long, more)

@@ -2,7 +2,6 @@ pub mod Values
 pub mod Words
 pub mod Checksum
 pub mod Read
-pub mod Gives
 pub mod Text
 pub mod Shown
 pub mod Valid

@@ -1,6 +1,5 @@
 -- The parts of a text as the code reads them, as lists and numbers.
 use Rattle.std.specs.Prelude.{Result, Ok, Err}
-use Rattle.sd_names.specs.declared.fault.DomainFault.{DomainFault}
 use Rattle.domain_meta.specs.declared.reading.Fields.{Fields}
 use Rattle.domain_meta.specs.declared.record.DomainRecord.{DomainRecord}
 
@@ -15,6 +14,6 @@ fields_view f = record {
   description = f.description.now;
 }
 
-abbrev pub fields_shown : Result Fields DomainFault → Result DomainRecord DomainFault
+abbrev pub fields_shown : {E : Type 0} → Result Fields E → Result DomainRecord E
 fields_shown (Ok f) = Ok (fields_view f)
 fields_shown (Err e) = Err e

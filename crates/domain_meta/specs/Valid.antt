@@ -1,5 +1,5 @@
 -- Records whose fields are in their ranges.
-use Rattle.std.specs.Prelude.{◌≡◌, ◌≤◌, ◌<◌, ◌^◌, List, [], length, true, All}
+use Rattle.std.specs.Prelude.{◌≡◌, ℕ, ◌≤◌, ◌<◌, ◌^◌, List, [], length, true, All, Option, Some, None}
 use Rattle.kv_text.specs.Text.{IsOneLine}
 use Rattle.sd_names.specs.Id.{IsIdBytes}
 use Rattle.sd_names.specs.declared.id.Id.{Id}
@@ -12,6 +12,15 @@ use Rattle.domain_meta.specs.declared.record.DomainRecord.{DomainRecord}
 abbrev pub Lists : Role → List Id → Type 0
 Lists Master ids = (1 ≤ length ids) × (length ids ≤ 4) × (is_rising ids ≡ true)
 Lists Regular ids = ids ≡ []
+
+-- what a master's version and the domains that are listed have to be, where it is known which role a text has
+abbrev pub GoesWith : Option Role → ℕ → Type 0
+GoesWith (Some role) n = n ≡ version_of_role role
+GoesWith None n = Unit {0}
+
+abbrev pub MayList : Option Role → List Id → Type 0
+MayList (Some role) ids = Lists role ids
+MayList None ids = Unit {0}
 
 -- each field is in its range, and the description has no line feed
 pub record IsValid (r : DomainRecord) : Type 0 where

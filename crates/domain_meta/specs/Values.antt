@@ -16,10 +16,6 @@ use Rattle.sd_names.specs.declared.kinds.Role.TheVariants.{Master, Regular}
 unfoldable pub class_of : List ℕ → Option Unit
 class_of value = if bytes_eq value (codes "Data") then Some tt else None
 
--- DESCRIPTION: at most 4,096 bytes
-unfoldable pub description_of : List ℕ → Option (List ℕ)
-description_of value = if nat_le (length value) 4096 then Some value else None
-
 unfoldable pub role_of : List ℕ → Option Role
 role_of value =
     if bytes_eq value (codes "Master") then Some Master else if bytes_eq value (codes "Regular") then Some Regular else None

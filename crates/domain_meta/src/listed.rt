@@ -1,10 +1,12 @@
 // The domains that a text lists.
-ghost use Rattle.std.specs.Prelude.{◌≡◌, ◌≤◌, ◌<◌, ◌++◌, [], ◌∷◌, length, Some, None, IfSome, IfNone, slice_index_or, drop};
+ghost use Rattle.std.specs.Prelude.{◌≡◌, ◌≤◌, ◌<◌, ◌++◌, [], ◌∷◌, length, Some, None, IfSome, IfNone, slice_index_or, drop, All, true};
+ghost use Rattle.sd_names.specs.Id.{IsIdBytes};
 ghost use Rattle.std.specs.Option.{option_map};
 ghost use Rattle.std.specs.List.{slice_split};
 ghost use Rattle.domain_meta.specs.Values.{is_comma, is_rising, domain_of, domains_of_words, listed_of};
 ghost use Rattle.domain_meta.specs.Words.{words_left};
 
+use arrayvec::ArrayVec;
 use kv_text::split_once;
 use sd_names::Id;
 use std::marker::Model;
@@ -15,19 +17,16 @@ const MOST: usize = 4;
 /// At most four identifiers. A contract sees the list.
 #[derive(Drop)]
 pub struct Listed {
-    ids: [Id; 4],
-    len: usize,
+    ids: ArrayVec<Id, 4>,
 }
 
 impl Model for Listed {
-    ghost use Rattle.std.specs.Prelude.{◌≡◌, ◌≤◌, List, length, take};
+    ghost use Rattle.std.specs.Prelude.{List};
     ghost use Rattle.sd_names.specs.declared.id.Id.{Id};
 
     ghost Value = { List Id };
 
-    ghost view = { λ l. take l.len l.ids };
-
-    ghost invariant = { λ l. (length l.ids ≡ 4) × (l.len ≤ 4) };
+    ghost view = { λ l. l.ids.items };
 }
 
 impl Listed {
@@ -36,8 +35,7 @@ impl Listed {
         ensures { result ≡ [] }
     {
         Listed {
-            ids: [Id::ZERO; 4],
-            len: 0,
+            ids: ArrayVec::new(),
         }
     }
 
@@ -46,8 +44,7 @@ impl Listed {
         requires { length self.old < 4 }
         ensures { self.new ≡ self.old ++ id ∷ [] }
     {
-        self.ids[self.len] = id;
-        self.len += 1;
+        self.ids.push(id)
     }
 
     /// The identifiers, lent.
@@ -55,7 +52,7 @@ impl Listed {
         ensures list { result.now ≡ self.now }
         ensures few { length result.now ≤ 4 }
     {
-        &self.ids[..self.len]
+        self.ids.as_slice()
     }
 }
 
@@ -99,6 +96,8 @@ fn first_word(text: &[u8]) -> (&[u8], Option<&[u8]>)
 fn domains(value: &[u8]) -> Option<Listed>
     ensures some { IfSome result (λ ids. domains_of_words (slice_split is_comma value.now) ≡ Some ids) }
     ensures none { IfNone result (listed_of value.now ≡ None) }
+    ensures least { IfSome result (λ ids. 1 ≤ length ids) }
+    ensures ids { IfSome result (λ ids. All (λ id. IsIdBytes id.0) ids) }
 {
     let mut ids = Listed::new();
     let mut rest = value;
@@ -107,6 +106,7 @@ fn domains(value: &[u8]) -> Option<Listed>
         let Some(id) = domain(word) else {
             return None;
         };
+        id.has_sixteen_bytes();
         ids.push(id);
         match behind {
             Some(more) => rest = more,
@@ -120,6 +120,8 @@ fn domains(value: &[u8]) -> Option<Listed>
 #[tactic(auto, unfolding(crate::specs::Values::listed_of))]
 pub fn read_listed(value: &[u8]) -> Option<Listed>
     ensures value { option_map (λ ids. ids) result ≡ listed_of value.now }
+    ensures listed { IfSome result (λ ids. (1 ≤ length ids) × (length ids ≤ 4) × (is_rising ids ≡ true)) }
+    ensures ids { IfSome result (λ ids. All (λ id. IsIdBytes id.0) ids) }
 {
     let ids = domains(value)?;
     if is_rising(ids.as_slice()) {

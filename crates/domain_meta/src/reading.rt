@@ -1,19 +1,23 @@
 // Reading a domain's text.
-ghost use Rattle.std.specs.Prelude.{◌≡◌, ◌≤◌, length, IfOk, Ok};
-ghost use Rattle.kv_text.specs.Text.{IsOneLine, pairs};
-ghost use Rattle.domain_meta.specs.Gives.{Gives};
-ghost use Rattle.domain_meta.specs.Read.{needed_keys, shape_fault, same_digest, fields_of, checked_fields, read_domain};
+ghost use Rattle.std.specs.Prelude.{◌≡◌, ◌≤◌, length, IfOk};
+ghost use Rattle.kv_text.specs.Gives.{Gives};
+ghost use Rattle.kv_text.specs.Text.{pairs};
+ghost use Rattle.sd_names.specs.declared.fault.DomainFault.TheVariants as fault;
+ghost use Rattle.domain_meta.specs.Read.{needed_keys, fault_of, same_digest, fields_of, checked_fields, read_domain};
+ghost use Rattle.domain_meta.specs.Checksum.{checksum_of};
 ghost use Rattle.domain_meta.specs.Shown.{fields_shown, fields_view};
 ghost use Rattle.domain_meta.specs.Text.{HasShortTexts};
+ghost use Rattle.domain_meta.specs.Valid.{IsValid};
 
+use crate::checksum::checksum;
+use crate::keys;
 use crate::listed::Listed;
 use crate::record::DomainRecord;
-use crate::{checksum, keys};
-use kv_text::first_bad_line;
-use sd_names::{Bytes, DomainFault, Id, Ids, Key, Role};
+use kv_text::{TextFault, description, shape_fault};
+use sd_names::{Bytes, DomainFault, Id, Ids, Key, NoMemory, Role};
 use std::alloc::Global;
 
-// The values of a text.
+// The values of a text, of which the description is lent.
 #[derive(Drop)]
 struct Fields<'a> {
     version: u64,
@@ -26,13 +30,12 @@ struct Fields<'a> {
 }
 
 #[tactic(auto, unfolding(crate::specs::Read::fields_of))]
-fn read_fields(sd: Id, text: &[u8]) -> Result<Fields<'_>, DomainFault>
+fn read_fields(sd: Id, text: &[u8]) -> Result<Fields<'_>, TextFault>
     ensures value { fields_shown result ≡ fields_of sd (pairs text.now) }
-    ensures short { IfOk result (λ fields. length fields.description.now ≤ 4096) }
-    ensures one_line { IfOk result (λ fields. IsOneLine fields.description.now) }
+    ensures valid { IfOk result (λ fields. IsValid (fields_view fields)) }
 {
     keys::class(text)?;
-    let description = keys::description(text)?;
+    let description = description(text)?;
     let role = keys::role_in(text);
     let master_version = keys::master_version(role, text)?;
     let domains = keys::domains(role, text)?;
@@ -67,33 +70,71 @@ fn needed_keys() -> [Key; 8]
     ]
 }
 
-// What is wrong with the lines and the keys of a text.
-#[tactic(auto, unfolding(crate::specs::Read::shape_fault))]
-fn shape_fault(text: &[u8]) -> Option<DomainFault>
-    ensures { result ≡ shape_fault text.now }
+// A fault of lines, keys and values as one of a domain's text.
+fn fault_of(fault: TextFault) -> DomainFault
+    ensures { result ≡ fault_of fault }
 {
-    if let Some(number) = first_bad_line(text) {
-        return Some(DomainFault::BadLine(number));
+    match fault {
+        TextFault::BadLine(number) => DomainFault::BadLine(number),
+        TextFault::MissingKey(key) => DomainFault::MissingKey(key),
+        TextFault::BadValue(key) => DomainFault::BadValue(key),
     }
-    match keys::first_missing(text, &needed_keys()) {
-        Some(key) => Some(DomainFault::MissingKey(key)),
-        None => None,
+}
+
+// What is wrong with the checksum of a text, if anything is.
+fn checksum_fault(found: [u8; 20], text: &[u8]) -> Option<DomainFault>
+    requires short { length text.now ≤ 8192 }
+    ensures { result ≡ same_digest found (checksum_of text.now) }
+{
+    let computed = checksum(text);
+    if found == computed {
+        None
+    } else {
+        Some(DomainFault::Checksum(found, computed))
+    }
+}
+
+// The values of a text whose lines and keys are right, or what is wrong with its checksum or a value.
+#[tactic(auto, unfolding(crate::specs::Read::checked_fields))]
+fn checked_fields(sd: Id, text: &[u8]) -> Result<Fields<'_>, DomainFault>
+    requires short { length text.now ≤ 8192 }
+    ensures value { fields_shown result ≡ checked_fields sd text.now }
+    ensures valid { IfOk result (λ fields. IsValid (fields_view fields)) }
+{
+    let found = match keys::checksum(text) {
+        Ok(found) => found,
+        Err(fault) => return Err(fault_of(fault)),
+    };
+    if let Some(fault) = checksum_fault(found, text) {
+        return Err(fault);
+    }
+    match read_fields(sd, text) {
+        Ok(fields) => Ok(fields),
+        Err(fault) => Err(fault_of(fault)),
+    }
+}
+
+// The values of a text, or the first thing wrong with it. It takes no memory.
+#[tactic(auto, unfolding(crate::specs::Read::read_domain))]
+fn read_lent(sd: Id, text: &[u8]) -> Result<Fields<'_>, DomainFault>
+    ensures value { fields_shown result ≡ read_domain sd text.now }
+    ensures valid { IfOk result (λ fields. IsValid (fields_view fields)) }
+{
+    if text.len() > 8192 {
+        return Err(DomainFault::TooLong);
+    }
+    match shape_fault(text, &needed_keys()) {
+        Some(fault) => Err(fault_of(fault)),
+        None => checked_fields(sd, text),
     }
 }
 
 // The record of these values.
-fn record(alloc: Global, fields: Fields<'_>) -> Result<DomainRecord, DomainFault>
-    requires short { length fields.description.now ≤ 4096 }
-    requires one_line { IsOneLine fields.description.now }
-    ensures short { IfOk result HasShortTexts }
-    ensures value { Gives result (Ok (fields_view fields.entry)) }
+fn record(alloc: Global, fields: Fields<'_>) -> Result<DomainRecord, NoMemory>
+    ensures { IfOk result (λ domain. domain ≡ fields_view fields.entry) }
 {
-    let Ok(description) = Bytes::copied(alloc, fields.description) else {
-        return Err(DomainFault::Memory);
-    };
-    let Ok(domains) = Ids::copied(alloc, fields.domains.as_slice()) else {
-        return Err(DomainFault::Memory);
-    };
+    let description = Bytes::copied(alloc, fields.description)?;
+    let domains = Ids::copied(alloc, fields.domains.as_slice())?;
     Ok(DomainRecord {
         version: fields.version,
         role: fields.role,
@@ -105,35 +146,21 @@ fn record(alloc: Global, fields: Fields<'_>) -> Result<DomainRecord, DomainFault
     })
 }
 
-// The record of a text whose lines and keys are right, or what is wrong with its checksum or a value.
-#[tactic(auto, unfolding(crate::specs::Read::checked_fields))]
-fn checked_fields(alloc: Global, sd: Id, text: &[u8]) -> Result<DomainRecord, DomainFault>
-    ensures short { IfOk result HasShortTexts }
-    ensures value { Gives result (checked_fields sd text.now) }
-{
-    let found = keys::checksum(text)?;
-    let Ok(computed) = checksum::checksum(alloc, text) else {
-        return Err(DomainFault::Memory);
-    };
-    if found != computed {
-        return Err(DomainFault::Checksum(found, computed));
-    }
-    let fields = read_fields(sd, text)?;
-    record(alloc, fields)
-}
-
-/// The record of the text of the domain `sd`, or the first thing wrong with it: a line that is no pair, a key that
-/// isn't there, a checksum that isn't the one of the lines, a value that its key may not have. Keys are looked at in
-/// the order in which they are written, but the checksum before all others. The checksum is the SHA-1 (FIPS 180-4) of
-/// the lines, the checksum's own left out, sorted by their bytes. `Memory` is want of memory alone, and `TooLong` is
-/// the caller's to find, who read the file.
-#[tactic(auto, unfolding(crate::specs::Read::read_domain))]
+/// The record of the text of the domain `sd`, or the first thing wrong with it: more than 8,192 bytes, a line that is
+/// no pair, a key that isn't there, a checksum that isn't the one of the lines, a value that its key may not have. Keys
+/// are looked at in the order in which they are written, but the checksum before all others. The checksum is the SHA-1
+/// (FIPS 180-4) of the lines, the checksum's own left out, sorted by their bytes. `Memory` is want of memory alone: it
+/// comes only where the text has no fault.
 pub fn read(alloc: Global, sd: Id, text: &[u8]) -> Result<DomainRecord, DomainFault>
+    ensures read { Gives fault.Memory result (read_domain sd text.now) }
+    ensures valid { IfOk result IsValid }
     ensures short { IfOk result HasShortTexts }
-    ensures read { Gives result (read_domain sd text.now) }
 {
-    match shape_fault(text) {
-        Some(fault) => Err(fault),
-        None => checked_fields(alloc, sd, text),
+    match read_lent(sd, text) {
+        Ok(fields) => match record(alloc, fields) {
+            Ok(domain) => Ok(domain),
+            Err(NoMemory) => Err(DomainFault::Memory),
+        },
+        Err(fault) => Err(fault),
     }
 }

@@ -315,8 +315,7 @@ fn digests_of_a_changed_text(rt: HostRuntime) -> Result<(), AllocError> {
     Ok(())
 }
 
-// Lines behind `EOF` aren't read, and a text of 8,192 bytes is. The length isn't looked at: whoever read the file
-// knows it.
+// Lines behind `EOF` aren't read. A text of 8,192 bytes is read, and one of a byte more isn't.
 #[test]
 fn ends_of_texts(rt: HostRuntime) -> Result<(), AllocError> {
     let mut text = Vec::new(rt.alloc());
@@ -324,10 +323,10 @@ fn ends_of_texts(rt: HostRuntime) -> Result<(), AllocError> {
     text.extend_from_slice(b"EOF\nCLASS=x\nmiddle\n")?;
     assert_eq!(rt; fault_of(rt.alloc(), &text).0, "");
     let cases = [
-        (7871, "67c24cb5225c45781acdd8b8b27141398a3f3c1d", 8192),
-        (7872, "695faee93ab35b2e6a50fd3598f4f9817119294e", 8193),
+        (7871, "67c24cb5225c45781acdd8b8b27141398a3f3c1d", 8192, ""),
+        (7872, "695faee93ab35b2e6a50fd3598f4f9817119294e", 8193, "TooLong"),
     ];
-    for (count, digest, len) in cases {
+    for (count, digest, len, want) in cases {
         let mut pad = String::new(rt.alloc());
         pad.push_str("PAD=")?;
         for _ in 0..count {
@@ -336,7 +335,7 @@ fn ends_of_texts(rt: HostRuntime) -> Result<(), AllocError> {
         let mut text = changed(rt.alloc(), MASTER, "PAD", &pad, digest)?;
         text.extend_from_slice(b"\n")?;
         assert_eq!(rt; text.len(), len);
-        assert_eq!(rt; fault_of(rt.alloc(), &text).0, "");
+        assert_eq!(rt; fault_of(rt.alloc(), &text).0, want);
     }
     Ok(())
 }

@@ -1,8 +1,10 @@
 // What the values of a domain's keys mean.
-ghost use Rattle.std.specs.Prelude.{◌≡◌, ◌≤◌, length, IfSome};
+ghost use Rattle.std.specs.Prelude.{◌≡◌, All, IfSome, IsTrue};
 ghost use Rattle.std.specs.Option.{option_map};
 ghost use Rattle.hex.specs.Hex.{encode_lower};
-ghost use Rattle.domain_meta.specs.Values.{class_of, description_of, role_of, is_version_of, version_of_role, master_version_of, domains_of, digest_of};
+ghost use Rattle.domain_meta.specs.Values.{class_of, role_of, is_version_of, version_of_role, master_version_of, domains_of, digest_of};
+ghost use Rattle.domain_meta.specs.Valid.{GoesWith, MayList};
+ghost use Rattle.sd_names.specs.Id.{IsIdBytes};
 
 use crate::listed::{Listed, read_listed};
 use hex::FromHex;
@@ -15,19 +17,6 @@ pub fn class(value: &[u8]) -> Option<()>
 {
     if value == b"Data".as_slice() {
         Some(())
-    } else {
-        None
-    }
-}
-
-#[tactic(auto, unfolding(crate::specs::Values::description_of))]
-pub fn description(value: &[u8]) -> Option<&[u8]>
-    ensures value { option_map (λ bytes. bytes.now) result ≡ description_of value.now }
-    ensures short { IfSome result (λ bytes. length bytes.now ≤ 4096) }
-    ensures same { IfSome result (λ bytes. bytes.now ≡ value.now) }
-{
-    if value.len() <= 4096 {
-        Some(value)
     } else {
         None
     }
@@ -48,7 +37,8 @@ pub fn role(value: &[u8]) -> Option<Role>
 
 // Whether a master's version goes with a role, or where ROLE has none, with either.
 fn is_version_of(role: Option<Role>, number: u64) -> bool
-    ensures { result ≡ is_version_of role number }
+    ensures value { result ≡ is_version_of role number }
+    ensures valid { IsTrue result → GoesWith role number }
 {
     match role {
         Some(Role::Master) => number == 1,
@@ -59,7 +49,8 @@ fn is_version_of(role: Option<Role>, number: u64) -> bool
 
 #[tactic(auto, unfolding(crate::specs::Values::master_version_of))]
 pub fn master_version(role: Option<Role>, value: &[u8]) -> Option<u64>
-    ensures { result ≡ master_version_of role value.now }
+    ensures value { result ≡ master_version_of role value.now }
+    ensures valid { IfSome result (GoesWith role) }
 {
     let number = read_number(value)?;
     if is_version_of(role, number) {
@@ -71,7 +62,9 @@ pub fn master_version(role: Option<Role>, value: &[u8]) -> Option<u64>
 
 #[tactic(auto, unfolding(crate::specs::Values::domains_of))]
 pub fn domains(role: Option<Role>, value: &[u8]) -> Option<Listed>
-    ensures { result ≡ domains_of role value.now }
+    ensures value { result ≡ domains_of role value.now }
+    ensures listed { IfSome result (λ ids. MayList role ids) }
+    ensures ids { IfSome result (λ ids. All (λ id. IsIdBytes id.0) ids) }
 {
     match role {
         Some(Role::Master) => read_listed(value),
