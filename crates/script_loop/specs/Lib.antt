@@ -1,0 +1,10 @@
+pub mod Calls
+pub mod Ends
+pub mod Line
+pub mod Lines
+pub mod Memory
+pub mod Progress
+pub mod Run
+pub mod Script
+pub mod Status
+pub mod Stream

@@ -1,0 +1,14 @@
+-- How a session ends.
+use Rattle.std.specs.Prelude.{ℕ}
+use Rattle.script_loop.specs.declared.status.Status.{Status}
+use Rattle.script_loop.specs.declared.status.Status.TheVariants.{Done, Refused, Words, ReadFault, WriteFault, TooLong, Memory}
+
+-- the code of a status
+abbrev pub code_of : Status → ℕ
+code_of Done = 0
+code_of Refused = 1
+code_of Words = 2
+code_of ReadFault = 3
+code_of WriteFault = 4
+code_of TooLong = 5
+code_of Memory = 6
