@@ -1,7 +1,7 @@
 -- Pieces of the input put together, and how a script ends.
-use Rattle.std.proofs.Common.{◌≡◌, ℕ, suc, ◌+◌, ◌≤◌, nat_eq, Bool, true, false, if◌then◌else◌, List, [], ◌∷◌, ◌++◌, length, take, drop, length-take, length-drop, Option, Some, refl, sym, ap, ◌∙◌, subst, arith, append_assoc, length-append}
+use Rattle.std.proofs.Common.{◌≡◌, ℕ, suc, ◌+◌, ◌≤◌, nat_eq, Bool, true, false, if◌then◌else◌, List, [], ◌∷◌, ◌++◌, length, take, drop, length-take, length-drop, Option, refl, sym, ap, ◌∙◌, subst, arith, append_assoc}
 use Rattle.std.proofs.lemmas.List.{append-nil, take-append-drop, take-append-le}
-use Rattle.script_loop.specs.Ends.{Ends, EndsAt, Finishes, FailsOut, IsBroken, RanAll, status_of, most_input}
+use Rattle.script_loop.specs.Ends.{Ends, EndsAt, Finishes, RanAll, status_of, most_input}
 use Rattle.script_loop.specs.Stream.{Took, IsSpent}
 use Rattle.script_loop.specs.declared.runner.LineOutcome.{LineOutcome}
 use Rattle.script_loop.specs.declared.status.Status.{Status}

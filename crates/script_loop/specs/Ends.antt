@@ -1,5 +1,5 @@
 -- How a script ends, and what has happened by then.
-use Rattle.std.specs.Prelude.{◌≡◌, ℕ, ◌+◌, ◌≤◌, ◌<◌, All, List, [], ◌∷◌, ◌++◌, length, nat_eq, Option, Some, if◌then◌else◌}
+use Rattle.std.specs.Prelude.{◌≡◌, ℕ, ◌+◌, ◌≤◌, All, List, [], ◌∷◌, ◌++◌, length, nat_eq, Option, if◌then◌else◌}
 use Rattle.std.specs.List.{flat_map}
 use Rattle.script_loop.specs.Lines.{Cut, ended, HasNoLf, all_lines}
 use Rattle.script_loop.specs.Run.{RunsLine, Runs, refusals, shortages}

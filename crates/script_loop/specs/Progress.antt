@@ -1,5 +1,5 @@
 -- How far a script has come.
-use Rattle.std.specs.Prelude.{◌≡◌, ℕ, ◌+◌, List, [], ◌∷◌, ◌++◌, length, Option}
+use Rattle.std.specs.Prelude.{◌≡◌, ℕ, ◌+◌, List, length, Option}
 use Rattle.script_loop.specs.Line.{Holds}
 use Rattle.script_loop.specs.Lines.{Cut}
 use Rattle.script_loop.specs.Run.{Runs, refusals, shortages, refusal_in, shortage_in}

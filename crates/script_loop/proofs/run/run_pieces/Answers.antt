@@ -1,9 +1,7 @@
-use Rattle.std.proofs.Common.{◌≡◌, ◌≤◌, ◌++◌, ℕ, List, [], take, drop, length, refl, ◌∙◌, subst, arith, sym, length-append}
-use Rattle.script_loop.specs.Ends.{most_input}
-use Rattle.script_loop.specs.Progress.{Progress}
+use Rattle.std.proofs.Common.{◌≡◌, ◌≤◌, ◌++◌, ℕ, List, [], take, drop, length, refl, ◌∙◌, subst, arith, length-append}
 use Rattle.script_loop.specs.Stream.{Took}
 use Rattle.script_loop.specs.declared.status.Status.TheVariants.{ReadFault, TooLong, WriteFault}
-use Rattle.script_loop.proofs.EndLemmas.{took_whole, took_still, took_piece, took_as, spent_since, extra_size, one_of, ends_told, finish_ends}
+use Rattle.script_loop.proofs.EndLemmas.{took_still, took_piece, took_as, spent_since, extra_size, one_of, ends_told, finish_ends}
 use Rattle.script_loop.proofs.RunLemmas.{starts, ends_cut}
 use Rattle.script_loop.proofs.run.run_pieces.Goals as goal
 
