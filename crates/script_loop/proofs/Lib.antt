@@ -2,3 +2,4 @@ pub mod LineLemmas
 pub mod StreamLemmas
 pub mod RunLemmas
 pub mod EndLemmas
+pub mod Follows
