@@ -1,6 +1,6 @@
 -- What is so of each line is so of a whole script: where another machine follows each line, it follows the script.
 use Rattle.std.proofs.Common.{◌≡◌, ℕ, ◌+◌, nat_eq, Bool, true, false, if◌then◌else◌, List, [], ◌∷◌, length, Option, refl, sym, ap, ◌∙◌, subst, arith}
-use Rattle.script_loop.specs.Ends.{status_of, Ends, EndsAt, FailsIn, FailsOut, IsTooLong, IsBroken, RanAll, RanEnded}
+use Rattle.script_loop.specs.Ends.{status_of, Ends, EndsAt, IsBroken, RanAll, RanEnded}
 use Rattle.script_loop.specs.Lines.{all_lines}
 use Rattle.script_loop.specs.Run.{Runs, RunsLine, text_for, shortage_in, shortages}
 use Rattle.script_loop.specs.declared.runner.LineOutcome.{LineOutcome}
@@ -18,7 +18,7 @@ is_not_short refused e = is_not (nat_eq refused 0) e
 module _ {M D N E : Type 0} (says : M → D → ℕ → List ℕ → LineOutcome → M → D → Type 0) (reply_of : M → List ℕ)
     (says' : N → E → ℕ → List ℕ → LineOutcome → N → E → Type 0) (reply_of' : N → List ℕ) (Stands : M → D → N → E → Type 0)
     (step : (m : M) (d : D) (n : N) (e : E) (number : ℕ) (text : List ℕ) (outcome : LineOutcome) (m' : M) (d' : D) → Stands m d n e → says m d number text outcome m' d'
-        → (n' : N) × (e' : E) × says' n e number text outcome n' e' × Stands m' d' n' e')
+    → (n' : N) × (e' : E) × says' n e number text outcome n' e' × Stands m' d' n' e')
     (same : (m : M) (d : D) (n : N) (e : E) → Stands m d n e → reply_of m ≡ reply_of' n) where
   line_follows : (number : ℕ) (m m' : M) (d d' : D) (n : N) (e : E) (line : List ℕ) (outcome : LineOutcome) (text : List ℕ) → Stands m d n e → RunsLine says reply_of number m d line outcome text m' d'
       → (n' : N) × (e' : E) × RunsLine says' reply_of' number n e line outcome text n' e' × Stands m' d' n' e'
