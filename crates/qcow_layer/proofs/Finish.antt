@@ -10,12 +10,12 @@ use Rattle.image_model.specs.File.{File, file_of}
 use Rattle.image_model.specs.Layer.{cluster_size, count_of}
 use Rattle.qcow_layer.specs.Marks.{MarksFile, free_by, used_in}
 use Rattle.qcow_layer.specs.Positions.{Reached, PassesHeader, block_position}
-use Rattle.qcow_layer.specs.Phases.{IsCounting, Knows, Steps, objected, tables_of}
+use Rattle.qcow_layer.specs.Stages.{IsCounting, Knows, Steps, objected, tables_of}
 use Rattle.qcow_layer.specs.declared.marks.Marks.{Marks}
 use Rattle.qcow_layer.specs.declared.objection.Objection.{Objection}
 use Rattle.qcow_layer.specs.declared.work.Target.{Target}
 use Rattle.qcow_layer.specs.declared.work.Work.{Work}
-use Rattle.qcow_layer.specs.declared.work.Phase.TheVariants.{Counting, Blocks}
+use Rattle.qcow_layer.specs.declared.work.Stage.TheVariants.{Counting, Blocks}
 use Rattle.qcow_layer.proofs.Moves.{fits_after}
 use Rattle.qcow_layer.proofs.Objects.{objected_gone, objects, with_marks, works_on}
 

@@ -16,12 +16,12 @@ use Rattle.image_model.specs.File.{file_of, sector_in}
 use Rattle.image_model.specs.Soundness.{layer_header, layer_header_of}
 use Rattle.qcow_layer.specs.Left.{IsOf}
 use Rattle.qcow_layer.specs.Opening.{SameLength}
-use Rattle.qcow_layer.specs.Phases.{HasHeader, IsOpened, Knows, PhaseKnows}
+use Rattle.qcow_layer.specs.Stages.{HasHeader, IsOpened, Knows, StageKnows}
 use Rattle.qcow_layer.specs.Seen.{IsSeen}
 use Rattle.qcow_layer.specs.declared.work.Target.{Target}
 use Rattle.qcow_layer.specs.declared.work.Work.{Work}
-use Rattle.qcow_layer.specs.declared.work.Phase.{Phase}
-use Rattle.qcow_layer.specs.declared.work.Phase.TheVariants.{Begun, Sized, Counting, Blocks, L1, L2, Taken}
+use Rattle.qcow_layer.specs.declared.work.Stage.{Stage}
+use Rattle.qcow_layer.specs.declared.work.Stage.TheVariants.{Begun, Sized, Counting, Blocks, L1, L2, Taken}
 use Rattle.qcow_layer.proofs.Pieces.{past_end, same_file}
 use Rattle.qcow_layer.proofs.Starts.{size_of}
 
@@ -38,8 +38,8 @@ work_of capacity count sectors work h has is sized wide =
     let same = one_header (layer_header (file_of count sectors) capacity) work.header h has.0 is in
     (same, sized ∙ size_of count sectors, wide ∙ ap (λ (x : Header). 2 ^ x.cluster_bits) same)
 
-pub bounds : (target : Target) (host count : ℕ) (sectors : ℕ → List ℕ) (phase : Phase) (h : Header) (d : Content) → Knows target host count sectors phase d
-    → layer_header (file_of count sectors) target.capacity ≡ Ok h → IsOf h (512 * count) phase
+pub bounds : (target : Target) (host count : ℕ) (sectors : ℕ → List ℕ) (stage : Stage) (h : Header) (d : Content) → Knows target host count sectors stage d
+    → layer_header (file_of count sectors) target.capacity ≡ Ok h → IsOf h (512 * count) stage
 bounds target host count sectors Begun h d knows is = tt
 bounds target host count sectors (Sized length) h d knows is = knows.holds.0
 bounds target host count sectors (Counting work next block) h d knows is =
@@ -48,28 +48,28 @@ bounds target host count sectors (Blocks work k) h d knows is =
     let w = knows.holds.0 in work_of target.capacity count sectors work h w.header is w.fits.size w.fits.cluster
 bounds target host count sectors (L1 work i) h d knows is =
     let w = knows.holds in work_of target.capacity count sectors work h w.header is w.fits.size w.fits.cluster
-bounds target host count sectors (L2 work i table j) h d knows is =
+bounds target host count sectors (L2 work i table j row) h d knows is =
     let w = knows.holds.0 in work_of target.capacity count sectors work h w.header is w.fits.size w.fits.cluster
 bounds target host count sectors (Taken work place block) h d knows is =
     let w = knows.holds.is_work in work_of target.capacity count sectors work h w.header is w.size w.cluster
 
 -- ---- what others may do
 
-holds_on : (capacity before after count : ℕ) (sectors : ℕ → List ℕ) (phase : Phase) → PhaseKnows capacity before count sectors phase → SameLength phase before after
-    → PhaseKnows capacity after count sectors phase
+holds_on : (capacity before after count : ℕ) (sectors : ℕ → List ℕ) (stage : Stage) → StageKnows capacity before count sectors stage → SameLength stage before after
+    → StageKnows capacity after count sectors stage
 holds_on capacity before after count sectors Begun holds same = holds ∙ sym same
 holds_on capacity before after count sectors (Sized length) holds same = holds
 holds_on capacity before after count sectors (Counting work next block) holds same = holds
 holds_on capacity before after count sectors (Blocks work k) holds same = holds
 holds_on capacity before after count sectors (L1 work i) holds same = holds
-holds_on capacity before after count sectors (L2 work i table j) holds same = holds
+holds_on capacity before after count sectors (L2 work i table j row) holds same = holds
 holds_on capacity before after count sectors (Taken work place block) holds same = holds
 
-pub survives : (target : Target) (host count : ℕ) (sectors : ℕ → List ℕ) (phase : Phase) (d e : Content) → (knows : Knows target host count sectors phase d)
-    → (s : IsSeen host target.place count sectors e) → SameLength phase knows.seen.file.size s.file.size → Knows target host count sectors phase e
-survives target host count sectors phase d e knows s same = record {
+pub survives : (target : Target) (host count : ℕ) (sectors : ℕ → List ℕ) (stage : Stage) (d e : Content) → (knows : Knows target host count sectors stage d)
+    → (s : IsSeen host target.place count sectors e) → SameLength stage knows.seen.file.size s.file.size → Knows target host count sectors stage e
+survives target host count sectors stage d e knows s same = record {
   seen = s;
-  holds = holds_on target.capacity knows.seen.file.size s.file.size count sectors phase knows.holds same;
+  holds = holds_on target.capacity knows.seen.file.size s.file.size count sectors stage knows.holds same;
 }
 
 pub untouched : (host count : ℕ) (place : Place) (sectors : ℕ → List ℕ) (d e : Content) → e.file place ≡ d.file place → IsSeen host place count sectors d → IsSeen host place count sectors e

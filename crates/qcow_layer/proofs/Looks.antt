@@ -17,7 +17,7 @@ use Rattle.image_model.specs.Layer.{Tables, entries, entry_at, entry_behind, ent
 use Rattle.image_model.specs.Soundness.{IsClean}
 use Rattle.qcow_layer.specs.Items.{layer_of}
 use Rattle.qcow_layer.specs.Looking.{IsLookedUp, LooksUp, names_table}
-use Rattle.qcow_layer.specs.Phases.{IsOpened, tables_of}
+use Rattle.qcow_layer.specs.Stages.{IsOpened, tables_of}
 use Rattle.qcow_layer.specs.Seen.{IsSeen}
 use Rattle.qcow_layer.specs.declared.layer.Layer.{Layer}
 use Rattle.qcow_layer.specs.declared.work.Work.{Work}

@@ -14,12 +14,12 @@ use Rattle.image_model.specs.Layer.{Tables, cluster_size, block_word, block_plac
 use Rattle.qcow_format.specs.declared.header.Header.{Header}
 use Rattle.qcow_layer.specs.Left.{Nears, WorksOn, counting_left}
 use Rattle.qcow_layer.specs.Marks.{CountsSector, KeepsSize, free_by}
-use Rattle.qcow_layer.specs.Phases.{IsCounting, Knows, Steps, tables_of}
+use Rattle.qcow_layer.specs.Stages.{IsCounting, Knows, Steps, tables_of}
 use Rattle.qcow_layer.specs.Seen.{IsSeen}
 use Rattle.qcow_layer.specs.declared.marks.Marks.{Marks}
 use Rattle.qcow_layer.specs.declared.work.Target.{Target}
 use Rattle.qcow_layer.specs.declared.work.Work.{Work}
-use Rattle.qcow_layer.specs.declared.work.Phase.TheVariants.{Counting}
+use Rattle.qcow_layer.specs.declared.work.Stage.TheVariants.{Counting}
 use Rattle.qcow_layer.proofs.Blocks.{span_of, span_some, not_turned, room_in_row, in_row, row_ends, same_sector, word_read, half_read, past_table, in_table, count_none, count_in}
 use Rattle.qcow_layer.proofs.Falls.{found_falls, skipped_falls, turned_falls, more_falls}
 use Rattle.qcow_layer.proofs.Starts.{size_of}

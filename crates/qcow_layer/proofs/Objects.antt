@@ -12,14 +12,14 @@ use Rattle.qcow_layer.specs.Checked.{Objected}
 use Rattle.qcow_layer.specs.Items.{layer_of}
 use Rattle.qcow_layer.specs.Left.{Falls, IsOf, WorksOn, blocks_left, counting_left, l1_left, l2_left, left_of}
 use Rattle.qcow_layer.specs.Marks.{KeepsFile, MarksFile}
-use Rattle.qcow_layer.specs.Phases.{After, HasHeader, IsGone, IsWork, StepCounts, objected, tables_of}
-use Rattle.qcow_layer.specs.Seen.{IsSeen, HasCauseNow}
+use Rattle.qcow_layer.specs.Stages.{After, HasHeader, IsGone, IsWork, objected, tables_of}
+use Rattle.qcow_layer.specs.Seen.{IsSeen}
 use Rattle.qcow_layer.specs.declared.marks.Marks.{Marks}
 use Rattle.qcow_layer.specs.declared.objection.Objection.{Objection}
 use Rattle.qcow_layer.specs.declared.objection.Objection.TheVariants.{Fault, Taken}
 use Rattle.qcow_layer.specs.declared.work.Target.{Target}
 use Rattle.qcow_layer.specs.declared.work.Work.{Work}
-use Rattle.qcow_layer.specs.declared.work.Phase.{Phase}
+use Rattle.qcow_layer.specs.declared.work.Stage.{Stage}
 
 pub first_fault : (capacity : ℕ) (file : File) (header : Header) (fault : LayerFault) → layer_header file capacity ≡ Ok header → FirstFault (layer_of header file) capacity fault → HasFault file capacity fault
 first_fault capacity file header fault e first =
@@ -46,19 +46,6 @@ pub objected_gone : (target : Target) (work : Work) (objection : Objection) (d :
 objected_gone target work (Fault fault) d = tt
 objected_gone target work (Taken place) d = tt
 
-pub objected_cause : (target : Target) (work : Work) (objection : Objection) (before after : ℕ)
-    → MatchTurn (objected target work objection) (λ _. Unit {0}) (λ _. Unit {0}) (λ _ refusal. HasCauseNow before after refusal)
-objected_cause target work (Fault fault) before after = tt
-objected_cause target work (Taken place) before after = tt
-
-pub objected_counts : (target : Target) (work : Work) (objection : Objection) (turn : Turn Phase Work (Unit {0})) (faults faults' calls calls' : ℕ) → turn ≡ objected target work objection
-    → calls' ≤ calls + 1 → faults ≤ faults' → StepCounts faults faults' calls calls' turn
-objected_counts target work objection turn faults faults' calls calls' is one more = record {
-  one_call = one;
-  no_less = more;
-  cause = subst (λ (t : Turn Phase Work (Unit {0})). MatchTurn t (λ _. Unit {0}) (λ _. Unit {0}) (λ _ refusal. HasCauseNow faults faults' refusal)) (sym is) (objected_cause target work objection faults faults');
-}
-
 -- the marks after an item was looked at are of the same file
 pub works_on : (capacity : ℕ) (file : File) (work : Work) (after : Marks) (low : 12 ≤ work.header.cluster_bits) (high : work.header.cluster_bits ≤ 21) (few : work.header.l1_size < 2 ^ 32)
     (even : work.header.l1_table_offset % 2 ^ work.header.cluster_bits ≡ 0) (even' : work.header.refcount_table_offset % 2 ^ work.header.cluster_bits ≡ 0)
@@ -67,10 +54,10 @@ works_on capacity file work after low high few even even' header fits keeps = re
 
 -- ---- fewer steps are left
 
-pub objected_falls : (target : Target) (phase : Phase) (work : Work) (objection : Objection)
-    → ((h : Header) (size : ℕ) → WorksOn h size work → IsOf h size phase × (2 < left_of h size phase)) → Falls phase (objected target work objection)
-objected_falls target phase work (Fault fault) more = tt
-objected_falls target phase work (Taken place) more = more
+pub objected_falls : (target : Target) (stage : Stage) (work : Work) (objection : Objection)
+    → ((h : Header) (size : ℕ) → WorksOn h size work → IsOf h size stage × (2 < left_of h size stage)) → Falls stage (objected target work objection)
+objected_falls target stage work (Fault fault) more = tt
+objected_falls target stage work (Taken place) more = more
 
 pub before_keeping : (work : Work) (after : Marks) (low : 12 ≤ work.header.cluster_bits) (high : work.header.cluster_bits ≤ 21) (few : work.header.l1_size < 2 ^ 32)
     (even : work.header.l1_table_offset % 2 ^ work.header.cluster_bits ≡ 0) (even' : work.header.refcount_table_offset % 2 ^ work.header.cluster_bits ≡ 0)

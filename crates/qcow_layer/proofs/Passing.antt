@@ -1,5 +1,5 @@
 -- One entry of a table was looked at, and entries one after the other.
-use Rattle.std.proofs.Common.{◌≡◌, ℕ, suc, ◌+◌, ◌*◌, ◌/◌, ◌^◌, ◌<◌, ◌≤◌, List, Option, Some, None, Result, Ok, Err, refl, sym, ap, ◌∙◌, subst, arith, Bool, nat_le}
+use Rattle.std.proofs.Common.{◌≡◌, ℕ, suc, ◌+◌, ◌*◌, ◌/◌, ◌%◌, ◌^◌, ◌<◌, ◌≤◌, min, List, Option, Some, None, Result, Ok, Err, refl, sym, ap, ◌∙◌, subst, arith, Bool, nat_le}
 use Rattle.sd_names.specs.declared.fault.LayerFault.{LayerFault}
 use Rattle.qcow_format.specs.declared.header.Header.{Header}
 use Rattle.qcow_format.specs.Bytes.{number}
@@ -9,10 +9,11 @@ use Rattle.image_model.specs.Layer.{Tables, entries, block_at, block_word, l1_at
 use Rattle.image_model.specs.Soundness.{Item, item, block_item, l1_item_of, l2_item_of, l2_item, outside, before_mapping}
 use Rattle.qcow_layer.specs.Items.{layer_of, NamesCluster}
 use Rattle.qcow_layer.specs.Checked.{Checked, against, against_name, or_against}
-use Rattle.qcow_layer.specs.Marks.{Admits, free_by, used_in}
-use Rattle.qcow_layer.specs.Positions.{Reached, ReachedL1, PassesBlock, PassesBlocks, PassesEntry, PassesEntries, PassesL1, block_position, l1_position, l2_position}
+use Rattle.qcow_layer.specs.Marks.{Admits, MarksFile, free_by, used_in}
+use Rattle.qcow_layer.specs.Positions.{Reached, ReachedL1, PassesBlock, PassesBlocks, PassesEntry, PassesEntries, PassesL1, PassesRow, HasRow, row_end, block_position, l1_position, l2_position}
 use Rattle.qcow_layer.specs.declared.marks.Marks.{Marks}
 use Rattle.qcow_layer.specs.declared.objection.Objection.{Objection}
+use Rattle.qcow_layer.specs.declared.tables.Table.{Table}
 use Rattle.qcow_layer.proofs.Moves.{moved, fits_after, keeps_same, keeps_both}
 use Rattle.qcow_layer.proofs.Places.{item_block, item_l1, item_l2, item_behind}
 use Rattle.qcow_layer.proofs.Skip.{skipped}
@@ -149,3 +150,37 @@ l1_admitted header i at bits before after x admits same near aligned = record {
       subst (λ (y : Item). ReachedL1 t capacity i after (Ok y.name)) (sym here)
       (l1_named t capacity i after (l1_entry t i) lt refl (λ fault e. no_fault before x fault (ap (λ (y : Item). y.wrong) (here ∙ ap (l1_item_of t (l1_at t i)) e)) admits.verdict) checked);
 }
+
+-- ---- the L1 entries of a sector
+
+min_below : (k a b : ℕ) → k < min a b → (k < a) × (k < b)
+min_below k a b lt = (omega (arith, lt), omega (arith, lt))
+
+pub no_row : (header : Header) (i : ℕ) (row : List ℕ) (m : Marks) → PassesRow header i i row m m (Ok None)
+no_row header i row m = record { keeps = keeps_same m; inside = λ table e. absurd cc; reaches = λ file capacity low has fits known. known }
+
+module _ (header : Header) (i k : ℕ) (row : List ℕ) (a b c : Marks) (above : i ≤ k) (below : k < row_end header i) (p : PassesRow header i k row a b (Ok None)) where
+  here : (result : Result (Option ℕ) Objection) → PassesL1 header k (number 8 (8 * (k % 64)) row) b c result
+      → (file : File) (capacity : ℕ) → l1_at (layer_of header file) header.l1_size ≤ 2 ^ 64 → HasRow (layer_of header file) i row → MarksFile a (layer_of header file)
+      → Checked (layer_of header file) capacity (l1_position (layer_of header file) i) (used_in (layer_of header file) a)
+      → ReachedL1 (layer_of header file) capacity k c result
+  here result q file capacity low has fits known =
+      let both = min_below k header.l1_size (i / 64 * 64 + 64) below in
+      let same : k / 64 ≡ i / 64 = omega (arith, above, both.1) in
+      q.reaches file capacity both.0 (omega (arith, low, both.0)) (sym (has k same)) (fits_after (layer_of header file) a b p.keeps fits) (p.reaches file capacity low has fits known)
+
+  pub row_next : PassesL1 header k (number 8 (8 * (k % 64)) row) b c (Ok None) → PassesRow header i (k + 1) row a c (Ok None)
+  row_next q = record { keeps = keeps_both a b c p.keeps q.keeps; inside = λ table e. absurd cc; reaches = λ file capacity low has fits known. here (Ok None) q file capacity low has fits known }
+
+  pub row_objected : (end : ℕ) (objection : Objection) → PassesL1 header k (number 8 (8 * (k % 64)) row) b c (Err objection) → PassesRow header i end row a c (Err objection)
+  row_objected end objection q = record { keeps = keeps_both a b c p.keeps q.keeps; inside = λ table e. absurd cc; reaches = λ file capacity low has fits known. here (Err objection) q file capacity low has fits known }
+
+  pub row_found : (end place : ℕ) → PassesL1 header k (number 8 (8 * (k % 64)) row) b c (Ok (Some place))
+      → PassesRow header i end row a c (Ok (Some (record { index = k; place = place })))
+  row_found end place q = record {
+    keeps = keeps_both a b c p.keeps q.keeps;
+    inside = λ table e.
+        let same : record { index = k; place = place } ≡ table = cc in
+        subst (λ (x : Table). (i ≤ x.index) × (x.index < row_end header i)) same (above, below);
+    reaches = λ file capacity low has fits known. here (Ok (Some place)) q file capacity low has fits known;
+  }

@@ -23,10 +23,10 @@ use Rattle.qcow_layer.specs.Items.{layer_of}
 use Rattle.std.proofs.Math.Nat.{zero-mod}
 use Rattle.qcow_layer.specs.Marks.{free_by}
 use Rattle.qcow_layer.specs.declared.work.Work.{Work}
-use Rattle.qcow_layer.specs.Phases.{BeginsCounting, Knows, Steps}
+use Rattle.qcow_layer.specs.Stages.{BeginsCounting, Knows, Steps}
 use Rattle.qcow_layer.specs.Seen.{IsSeen, IsReadRefusal, head_of}
 use Rattle.qcow_layer.specs.declared.work.Target.{Target}
-use Rattle.qcow_layer.specs.declared.work.Phase.TheVariants.{Begun, Sized, Counting}
+use Rattle.qcow_layer.specs.declared.work.Stage.TheVariants.{Begun, Sized, Counting}
 use Rattle.qcow_layer.proofs.Pieces.{same_file}
 use Rattle.std.proofs.lemmas.Nat.{pow_pos}
 use Rattle.qcow_layer.proofs.Walks.{read_refused, pages}

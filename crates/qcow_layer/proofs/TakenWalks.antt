@@ -15,11 +15,11 @@ use Rattle.image_model.specs.Layer.{Tables, block_place, block_span, block_word,
 use Rattle.image_model.specs.Soundness.{FirstFault, NamedBefore, again, uncounted}
 use Rattle.qcow_layer.specs.Checked.{IsTaken}
 use Rattle.qcow_layer.specs.Left.{Nears}
-use Rattle.qcow_layer.specs.Phases.{IsWork, Knows, Steps, tables_of}
+use Rattle.qcow_layer.specs.Stages.{IsWork, Knows, Steps, tables_of}
 use Rattle.qcow_layer.specs.Seen.{IsSeen}
 use Rattle.qcow_layer.specs.declared.work.Target.{Target}
 use Rattle.qcow_layer.specs.declared.work.Work.{Work}
-use Rattle.qcow_layer.specs.declared.work.Phase.TheVariants.{Taken}
+use Rattle.qcow_layer.specs.declared.work.Stage.TheVariants.{Taken}
 use Rattle.qcow_layer.proofs.Blocks.{count_in, count_none, half_read, in_table, past_table, same_sector, span_some, word_read, zero_number}
 use Rattle.qcow_layer.proofs.Objects.{first_fault}
 use Rattle.qcow_layer.proofs.Pieces.{past_end}

@@ -17,14 +17,14 @@ use Rattle.qcow_layer.specs.Checked.{Checked}
 use Rattle.qcow_layer.specs.Items.{layer_of}
 use Rattle.qcow_layer.specs.Marks.{used_in}
 use Rattle.qcow_layer.specs.Positions.{Reached, HasBlocks, PassesBlocks, block_position, l1_position}
-use Rattle.qcow_layer.specs.Phases.{After, IsChecking, Knows, Steps, IsRefused, IsGone, objected, tables_of}
+use Rattle.qcow_layer.specs.Stages.{After, IsChecking, Knows, Steps, IsRefused, IsGone, objected, tables_of}
 use Rattle.qcow_layer.specs.Seen.{IsSeen, IsReadRefusal}
 use Rattle.qcow_layer.specs.declared.marks.Marks.{Marks}
 use Rattle.qcow_layer.specs.declared.objection.Objection.{Objection}
 use Rattle.qcow_layer.specs.declared.work.Target.{Target}
 use Rattle.qcow_layer.specs.declared.work.Work.{Work}
-use Rattle.qcow_layer.specs.declared.work.Phase.{Phase}
-use Rattle.qcow_layer.specs.declared.work.Phase.TheVariants.{Blocks, L1}
+use Rattle.qcow_layer.specs.declared.work.Stage.{Stage}
+use Rattle.qcow_layer.specs.declared.work.Stage.TheVariants.{Blocks, L1}
 use Rattle.qcow_layer.proofs.Admit.{inside}
 use Rattle.qcow_layer.proofs.Moves.{fits_after}
 use Rattle.qcow_layer.proofs.Objects.{objected_gone, objects, with_marks, works_on}
@@ -44,9 +44,9 @@ refused_read : (target : Target) (host count : ℕ) (sectors : ℕ → List ℕ)
 refused_read target host count sectors refusal faults d file seen (inl e) = subst (λ r. IsRefused target file r) (sym e) tt
 refused_read target host count sectors refusal faults d file seen (inr e) = absurd (not_there target host count sectors d seen e.1)
 
-pub read_refused : (target : Target) (host faults : ℕ) (phase : Phase) (refusal : Refusal) (d e : Content) → IsSame d e → IsReadRefusal target.place faults refusal d
-    → Steps target host phase (Ended tt refusal) d e
-read_refused target host faults phase refusal d e same cause = record {
+pub read_refused : (target : Target) (host faults : ℕ) (stage : Stage) (refusal : Refusal) (d e : Content) → IsSame d e → IsReadRefusal target.place faults refusal d
+    → Steps target host stage (Ended tt refusal) d e
+read_refused target host faults stage refusal d e same cause = record {
   same = same;
   gone = gone target refusal faults d cause;
   after = λ count sectors knows. refused_read target host count sectors refusal faults d (file_of count sectors) knows.seen cause;

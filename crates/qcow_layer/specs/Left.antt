@@ -5,8 +5,8 @@ use Rattle.sd_names.specs.declared.turn.Turn.{Turn}
 use Rattle.sd_names.specs.Turn.{MatchTurn}
 use Rattle.qcow_format.specs.declared.header.Header.{Header}
 use Rattle.qcow_layer.specs.declared.work.Work.{Work}
-use Rattle.qcow_layer.specs.declared.work.Phase.{Phase}
-use Rattle.qcow_layer.specs.declared.work.Phase.TheVariants.{Begun, Sized, Counting, Blocks, L1, L2, Taken}
+use Rattle.qcow_layer.specs.declared.work.Stage.{Stage}
+use Rattle.qcow_layer.specs.declared.work.Stage.TheVariants.{Begun, Sized, Counting, Blocks, L1, L2, Taken}
 
 -- how many groups of so many are left of a total, from n on
 abbrev pub groups_left : ℕ → ℕ → ℕ → ℕ
@@ -42,13 +42,13 @@ counting_left h size n None = 1 + counts_left h size n + spans_left h size n + b
 counting_left h size n (Some place) = 1 + counts_left h size n + (spans_left h size n - 1) + blocks_left h 0
 
 -- the steps that are left of the opening of a file of so many bytes with this header
-abbrev pub left_of : Header → ℕ → Phase → ℕ
+abbrev pub left_of : Header → ℕ → Stage → ℕ
 left_of h size Begun = 2 + counting_left h size 0 None
 left_of h size (Sized length) = 1 + counting_left h size 0 None
 left_of h size (Counting work n block) = counting_left h size n block
 left_of h size (Blocks work k) = blocks_left h k
 left_of h size (L1 work i) = l1_left h i
-left_of h size (L2 work i table j) = l2_left h i j
+left_of h size (L2 work i table j row) = l2_left h i j
 left_of h size (Taken work place None) = 2
 left_of h size (Taken work place (Some block)) = 1
 
@@ -57,19 +57,23 @@ abbrev pub WorksOn : Header → ℕ → Work → Type 0
 WorksOn h size work = (work.header ≡ h) × (work.marks.size ≡ size) × (work.marks.cluster ≡ 2 ^ h.cluster_bits)
 
 -- as far as they are known
-abbrev pub IsOf : Header → ℕ → Phase → Type 0
+abbrev pub IsOf : Header → ℕ → Stage → Type 0
 IsOf h size Begun = Unit {0}
 IsOf h size (Sized length) = length ≡ size
 IsOf h size (Counting work n block) = WorksOn h size work
 IsOf h size (Blocks work k) = WorksOn h size work
 IsOf h size (L1 work i) = WorksOn h size work
-IsOf h size (L2 work i table j) = WorksOn h size work
+IsOf h size (L2 work i table j row) = WorksOn h size work
 IsOf h size (Taken work place block) = WorksOn h size work
 
--- the header and the size of a phase are those of the phase before it, and fewer steps are left
-abbrev pub Nears : Phase → Phase → Type 0
-Nears phase next = (h : Header) (size : ℕ) → IsOf h size next → IsOf h size phase × (left_of h size next < left_of h size phase)
+-- the header and the size of a stage are those of the stage before it, and fewer steps are left
+abbrev pub Nears : Stage → Stage → Type 0
+Nears stage next = (h : Header) (size : ℕ) → IsOf h size next → IsOf h size stage × (left_of h size next < left_of h size stage)
 
--- whatever the disk tells, a phase comes nearer to its end
-abbrev pub Falls : Phase → Turn Phase Work (Unit {0}) → Type 0
-Falls phase turn = MatchTurn turn (λ next. Nears phase next) (λ _. Unit {0}) (λ _ _. Unit {0})
+-- whatever the disk tells, a stage comes nearer to its end
+abbrev pub Falls : Stage → Turn Stage Work (Unit {0}) → Type 0
+Falls stage turn = MatchTurn turn (λ next. Nears stage next) (λ _. Unit {0}) (λ _ _. Unit {0})
+
+-- the next stage comes with fewer steps left than at L1 entry i
+abbrev pub FallsFrom : Work → ℕ → Turn Stage Work (Unit {0}) → Type 0
+FallsFrom work i turn = MatchTurn turn (λ next. (h : Header) (size : ℕ) → IsOf h size next → WorksOn h size work × (left_of h size next < l1_left h i)) (λ _. Unit {0}) (λ _ _. Unit {0})

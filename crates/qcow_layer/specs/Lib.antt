@@ -5,6 +5,6 @@ pub mod Left
 pub mod Looking
 pub mod Marks
 pub mod Opening
-pub mod Phases
+pub mod Stages
 pub mod Positions
 pub mod Seen

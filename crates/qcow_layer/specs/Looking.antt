@@ -9,7 +9,7 @@ use Rattle.shared_disk.specs.Content.{Content}
 use Rattle.shared_disk.specs.Calls.{IsSame}
 use Rattle.image_model.specs.File.{file_of}
 use Rattle.image_model.specs.Layer.{Tables, entries, entry_at, l1_entry}
-use Rattle.qcow_layer.specs.Phases.{IsGone, IsOpened, tables_of}
+use Rattle.qcow_layer.specs.Stages.{IsGone, IsOpened, tables_of}
 use Rattle.qcow_layer.specs.Seen.{IsSeen}
 use Rattle.qcow_layer.specs.declared.layer.Layer.{Layer}
 use Rattle.qcow_layer.specs.declared.looking.Looked.{Looked}

@@ -1,5 +1,5 @@
 -- An opening between its steps, and the layer that it finds.
-use Rattle.std.specs.Prelude.{◌≡◌, ℕ, ◌<◌, List, Option}
+use Rattle.std.specs.Prelude.{◌≡◌, ℕ, ◌<◌, Bool, List, Option}
 use Rattle.sd_names.specs.declared.id.Id.{Id}
 use Rattle.sd_names.specs.declared.place.Place.{Place}
 use Rattle.sd_names.specs.declared.turn.Turn.{Turn}
@@ -9,12 +9,12 @@ use Rattle.shared_disk.specs.Calls.{IsSame}
 use Rattle.qcow_format.specs.declared.header.Header.{Header}
 use Rattle.image_model.specs.File.{file_of}
 use Rattle.qcow_layer.specs.Left.{IsOf, left_of}
-use Rattle.qcow_layer.specs.Phases.{IsGone, IsOpened, IsRefused, Knows}
+use Rattle.qcow_layer.specs.Stages.{IsGone, IsOpened, IsRefused, Knows, takes_map}
 use Rattle.qcow_layer.specs.Seen.{IsSeen}
 use Rattle.qcow_layer.specs.declared.layer.Layer.{Layer}
 use Rattle.qcow_layer.specs.declared.opening.Opening.{Opening}
-use Rattle.qcow_layer.specs.declared.work.Phase.{Phase}
-use Rattle.qcow_layer.specs.declared.work.Phase.TheVariants.{Begun, Sized, Counting, Blocks, L1, L2, Taken}
+use Rattle.qcow_layer.specs.declared.work.Stage.{Stage}
+use Rattle.qcow_layer.specs.declared.work.Stage.TheVariants.{Begun, Sized, Counting, Blocks, L1, L2, Taken}
 use Rattle.qcow_layer.specs.declared.work.Target.{Target}
 
 -- which layer is opened
@@ -36,7 +36,7 @@ parent_kept layer = layer.work.parent
 -- What an opening knows between its steps: the host sees these sectors in the file, which has so many of them, or had
 -- when its length was asked, and zeros behind them.
 abbrev pub KnowsFile : Opening → ℕ → ℕ → (ℕ → List ℕ) → Content → Type 0
-KnowsFile o host count sectors d = Knows o.target host count sectors o.phase d
+KnowsFile o host count sectors d = Knows o.target host count sectors o.stage d
 
 -- an opening that was begun knows each file that the host sees, as long as it is
 pub record IsBegun (o : Opening) (id : Id) (at : Place) (bytes : ℕ) : Type 0 where
@@ -46,17 +46,17 @@ pub record IsBegun (o : Opening) (id : Id) (at : Place) (bytes : ℕ) : Type 0 w
   pub knows : (host count : ℕ) (sectors : ℕ → List ℕ) (d : Content) → (seen : IsSeen host at count sectors d) → count ≡ seen.file.size → KnowsFile o host count sectors d
 
 -- the file's length is the same, unless it was asked already
-abbrev pub SameLength : Phase → ℕ → ℕ → Type 0
+abbrev pub SameLength : Stage → ℕ → ℕ → Type 0
 SameLength Begun before after = after ≡ before
 SameLength (Sized length) before after = Unit {0}
 SameLength (Counting work next block) before after = Unit {0}
 SameLength (Blocks work k) before after = Unit {0}
 SameLength (L1 work i) before after = Unit {0}
-SameLength (L2 work i table j) before after = Unit {0}
+SameLength (L2 work i table j row) before after = Unit {0}
 SameLength (Taken work place block) before after = Unit {0}
 
 abbrev pub HasSameLength : Opening → ℕ → ℕ → Type 0
-HasSameLength o before after = SameLength o.phase before after
+HasSameLength o before after = SameLength o.stage before after
 
 -- the layer is of the opening's volume
 abbrev pub KeepsTarget : Opening → Turn Opening Layer (Unit {0}) → Type 0
@@ -64,11 +64,15 @@ KeepsTarget o turn = MatchTurn turn (λ next. target_of next ≡ target_of o) (�
 
 -- the header and the size of the file are these, as far as they are known
 abbrev pub OpensFile : Header → ℕ → Opening → Type 0
-OpensFile h size o = IsOf h size o.phase
+OpensFile h size o = IsOf h size o.stage
+
+-- whether the next step takes memory
+abbrev pub may_lack_memory : Opening → Bool
+may_lack_memory o = takes_map o.stage
 
 -- how many more steps the opening of a file of so many bytes with this header takes at the most
 abbrev pub steps_left : Header → ℕ → Opening → ℕ
-steps_left h size o = left_of h size o.phase
+steps_left h size o = left_of h size o.stage
 
 -- whatever the disk tells, an opening comes nearer to its end
 abbrev pub NearsEnd : Opening → Turn Opening Layer (Unit {0}) → Type 0

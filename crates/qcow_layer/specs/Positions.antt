@@ -1,5 +1,5 @@
 -- Which position each entry has, and what is known once the positions below one were looked at.
-use Rattle.std.specs.Prelude.{◌≡◌, ℕ, ◌+◌, ◌*◌, ◌/◌, ◌%◌, ◌^◌, false, ◌<◌, ◌≤◌, List, Option, Some, None, Result, Ok, Err}
+use Rattle.std.specs.Prelude.{◌≡◌, ℕ, ◌+◌, ◌*◌, ◌/◌, ◌%◌, ◌^◌, min, false, ◌<◌, ◌≤◌, List, Option, Some, None, Result, Ok, Err}
 use Rattle.qcow_format.specs.declared.header.Header.{Header}
 use Rattle.qcow_format.specs.Bytes.{number}
 use Rattle.image_model.specs.File.{File}
@@ -10,6 +10,7 @@ use Rattle.qcow_layer.specs.Items.{layer_of}
 use Rattle.qcow_layer.specs.Marks.{MarksFile, KeepsFile, used_in}
 use Rattle.qcow_layer.specs.declared.marks.Marks.{Marks}
 use Rattle.qcow_layer.specs.declared.objection.Objection.{Objection}
+use Rattle.qcow_layer.specs.declared.tables.Table.{Table}
 
 -- entry k of the refcount table
 abbrev pub block_position : Tables → ℕ → ℕ
@@ -79,6 +80,29 @@ pub record PassesL1 (header : Header) (i bits : ℕ) (before after : Marks) (res
   pub reaches : (file : File) (capacity : ℕ) → i < header.l1_size → l1_at (layer_of header file) i < 2 ^ 64 → file.word (l1_at (layer_of header file) i / 8) ≡ bits → MarksFile before (layer_of header file)
       → Checked (layer_of header file) capacity (l1_position (layer_of header file) i) (used_in (layer_of header file) before)
       → ReachedL1 (layer_of header file) capacity i after result
+
+-- the L1 entry behind the last one in the sector of entry i
+abbrev pub row_end : Header → ℕ → ℕ
+row_end header i = min header.l1_size (i / 64 * 64 + 64)
+
+-- a sector has the L1 entries of the row of entry i
+abbrev pub HasRow : Tables → ℕ → List ℕ → Type 0
+HasRow t i row = (k : ℕ) → k / 64 ≡ i / 64 → number 8 (8 * (k % 64)) row ≡ t.file.word (l1_at t k / 8)
+
+-- the L1 entries below k were looked at and name no table behind those that were known, or one names a table
+abbrev pub ReachedRow : Tables → ℕ → ℕ → Marks → Result (Option Table) Objection → Type 0
+ReachedRow t capacity k marks (Ok (Some table)) =
+    (l1_entry t table.index ≡ Ok (Some table.place)) × Checked t capacity (l2_position t table.index 0) (used_in t marks)
+ReachedRow t capacity k marks (Ok None) = Checked t capacity (l1_position t k) (used_in t marks)
+ReachedRow t capacity k marks (Err objection) = Objected t capacity objection
+
+-- the L1 entries from i up to k, which stand in one sector, were looked at
+pub record PassesRow (header : Header) (i k : ℕ) (row : List ℕ) (before after : Marks) (result : Result (Option Table) Objection) : Type 0 where
+  pub keeps : KeepsFile before after
+  pub inside : (table : Table) → result ≡ Ok (Some table) → (i ≤ table.index) × (table.index < row_end header i)
+  pub reaches : (file : File) (capacity : ℕ) → l1_at (layer_of header file) header.l1_size ≤ 2 ^ 64 → HasRow (layer_of header file) i row → MarksFile before (layer_of header file)
+      → Checked (layer_of header file) capacity (l1_position (layer_of header file) i) (used_in (layer_of header file) before)
+      → ReachedRow (layer_of header file) capacity k after result
 
 -- the first so many clusters that a field of the header names, which stands at a place of the header, were looked at
 pub record PassesClusters (header : Header) (at first count : ℕ) (before after : Marks) (result : Option Objection) : Type 0 where

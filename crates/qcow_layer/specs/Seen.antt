@@ -3,9 +3,9 @@ use Rattle.std.specs.Prelude.{◌≡◌, ◌⊎◌, ℕ, ◌+◌, ◌<◌, ◌�
 use Rattle.std.specs.List.{flat_map, range_with_len}
 use Rattle.sd_names.specs.declared.place.Place.{Place}
 use Rattle.sd_names.specs.declared.refusal.Refusal.{Refusal}
-use Rattle.sd_names.specs.declared.refusal.Refusal.TheVariants.{DiskFault, Vanished, LayerRefused, OutOfMemory}
+use Rattle.sd_names.specs.declared.refusal.Refusal.TheVariants.{DiskFault}
 use Rattle.shared_disk.specs.Content.{Content, File, seen, without}
-use Rattle.shared_disk.specs.Calls.{IsSame, Rose}
+use Rattle.shared_disk.specs.Calls.{IsSame}
 use Rattle.shared_disk.specs.Refusal.{refusal_of}
 use Rattle.shared_disk.specs.declared.disk.DiskAnswer.TheVariants.{NoFile}
 use Rattle.image_model.specs.File.{sector_in}
@@ -37,21 +37,3 @@ abbrev pub ReadsHead : ℕ → Place → ℕ → Result (List ℕ) Refusal → C
 ReadsHead host place faults (Ok head) d e =
     IsSame d e × ((count : ℕ) (sectors : ℕ → List ℕ) → IsSeen host place count sectors d → head ≡ head_of count sectors)
 ReadsHead host place faults (Err refusal) d e = IsSame d e × IsReadRefusal place faults refusal d
-
--- a fault of the disk is the one that came now, and no refusal but these comes
-abbrev pub HasCauseNow : ℕ → ℕ → Refusal → Type 0
-HasCauseNow before after (DiskFault n) = Rose before after × (n ≡ after)
-HasCauseNow before after (Vanished a) = Unit {0}
-HasCauseNow before after (LayerRefused v fault) = Unit {0}
-HasCauseNow before after OutOfMemory = Unit {0}
-HasCauseNow before after _ = ⊥
-
--- one call of the disk, whatever the disk tells
-pub record OneCall (faults faults' calls calls' : ℕ) : Type 0 where
-  pub one_call : calls' ≤ calls + 1
-  pub no_less : faults ≤ faults'
-
--- a read's refusal, whatever the disk tells
-abbrev pub ReadCause : ℕ → ℕ → Result (List ℕ) Refusal → Type 0
-ReadCause before after (Ok sector) = Unit {0}
-ReadCause before after (Err refusal) = HasCauseNow before after refusal

@@ -7,7 +7,7 @@ ghost use Rattle.qcow_format.specs.declared.header.Header.{Header};
 ghost use Rattle.image_model.specs.File.{File, file_of};
 ghost use Rattle.image_model.specs.Soundness.{layer_header};
 ghost use Rattle.qcow_layer.specs.Opening.{HasSameLength, KnowsFile, OpensFile, target_of};
-ghost use Rattle.qcow_layer.specs.Phases.{IsOpened};
+ghost use Rattle.qcow_layer.specs.Stages.{IsOpened};
 ghost use Rattle.qcow_layer.specs.Seen.{IsSeen};
 ghost use Rattle.qcow_layer.specs.declared.opening.Opening.{Opening};
 ghost use Rattle.qcow_layer.specs.declared.work.Work.{Work};

@@ -12,7 +12,7 @@ mod marks;
 mod noting;
 mod objection;
 mod opening;
-mod phases;
+mod stages;
 mod reading;
 mod sector;
 mod starting;

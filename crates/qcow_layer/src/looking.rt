@@ -1,8 +1,8 @@
 // Looking a cluster of the virtual disk up.
 ghost use Rattle.std.specs.Prelude.{◌≡◌, None, Some};
 ghost use Rattle.shared_disk.specs.Calls.{Told};
+ghost use Rattle.shared_disk.specs.Step.{EndsOnlyBy, IsDiskRefusal, StepCounts};
 ghost use Rattle.qcow_layer.specs.Looking.{FewerLooks, FindsEntry, FindsTable, LooksOn};
-ghost use Rattle.qcow_layer.specs.Phases.{StepCounts};
 
 use crate::item::cluster_bytes;
 use crate::layer::Layer;
@@ -40,6 +40,7 @@ fn find_table<D: SharedDisk>(
     cluster: u64,
 ) -> Turn<Looking, Looked, ()>
     ensures counts { StepCounts (D.faults disk.old) (D.faults disk.new) (D.calls disk.old) (D.calls disk.new) result }
+    ensures refusals { EndsOnlyBy IsDiskRefusal result }
     ensures falls { FewerLooks None result }
     ensures content { Told (D.content disk.old) (D.content disk.new) (FindsTable layer.now host cluster result) }
 {
@@ -71,6 +72,7 @@ fn find_entry<D: SharedDisk>(
     table: u64,
 ) -> Turn<Looking, Looked, ()>
     ensures counts { StepCounts (D.faults disk.old) (D.faults disk.new) (D.calls disk.old) (D.calls disk.new) result }
+    ensures refusals { EndsOnlyBy IsDiskRefusal result }
     ensures falls { FewerLooks (Some table) result }
     ensures content { Told (D.content disk.old) (D.content disk.new) (FindsEntry layer.now host cluster table result) }
 {
@@ -113,6 +115,7 @@ impl Looking {
         disk: &mut D,
     ) -> Turn<Looking, Looked, ()>
         ensures counts { StepCounts (D.faults disk.old) (D.faults disk.new) (D.calls disk.old) (D.calls disk.new) result }
+        ensures refusals { EndsOnlyBy IsDiskRefusal result }
         ensures layer { layer.new ≡ layer.old }
         ensures falls { FewerLooks (table_of self) result }
         ensures content { Told (D.content disk.old) (D.content disk.new) (LooksOn self layer.old host result) }

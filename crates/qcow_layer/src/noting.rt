@@ -1,10 +1,10 @@
 // Steps that note the counts of clusters, before anything that the file names is looked at.
-ghost use Rattle.std.specs.Prelude.{◌≡◌, ℕ, ◌<◌, ◌≤◌, ◌*◌};
+ghost use Rattle.std.specs.Prelude.{◌≡◌, ℕ, ◌<◌, ◌≤◌, ◌*◌, false};
 ghost use Rattle.shared_disk.specs.Calls.{Told};
-ghost use Rattle.sd_names.specs.Turn.{MatchTurn};
-ghost use Rattle.qcow_layer.specs.Seen.{HasCauseNow};
+ghost use Rattle.shared_disk.specs.Refusal.{IsRisen};
+ghost use Rattle.shared_disk.specs.Step.{EndsOnlyBy, StepCounts};
 ghost use Rattle.qcow_layer.specs.Left.{Falls};
-ghost use Rattle.qcow_layer.specs.Phases.{StepCounts, Steps, StepsAlone};
+ghost use Rattle.qcow_layer.specs.Stages.{IsOpeningRefusal, Steps, StepsAlone};
 
 use crate::clusters::check_header;
 use crate::counts::count_sector;
@@ -12,7 +12,7 @@ use crate::item::cluster_bytes;
 use crate::reading::read_sector;
 use crate::sector::word_at;
 use crate::taken::object;
-use crate::work::{Phase, Target, Work};
+use crate::work::{Stage, Target, Work};
 use sd_names::{HostId, Turn};
 use shared_disk::SharedDisk;
 
@@ -22,17 +22,18 @@ fn finish_counting(
     work: Work,
     next: u64,
     block: Option<u64>,
-) -> Turn<Phase, Work, ()>
+) -> Turn<Stage, Work, ()>
     requires all { work.marks.size ≤ next * work.marks.cluster }
-    ensures cause { (before after : ℕ) → MatchTurn result (λ _. Unit {0}) (λ _. Unit {0}) (λ _ refusal. HasCauseNow before after refusal) }
-    ensures falls { Falls (Phase.Counting work next block) result }
-    ensures next { StepsAlone target (Phase.Counting work next block) result }
+    ensures cause { (before after : ℕ) → EndsOnlyBy (IsRisen before after) result }
+    ensures refusals { EndsOnlyBy (IsOpeningRefusal false) result }
+    ensures falls { Falls (Stage.Counting work next block) result }
+    ensures next { StepsAlone target (Stage.Counting work next block) result }
 {
     let mut work = work;
     let header = work.header;
     match check_header(&header, &mut work.marks) {
         Some(objection) => object(target, work, objection),
-        None => Turn::More(Phase::Blocks(work, 0)),
+        None => Turn::More(Stage::Blocks(work, 0)),
     }
 }
 
@@ -43,11 +44,12 @@ fn step_block<D: SharedDisk>(
     disk: &mut D,
     work: Work,
     next: u64,
-) -> Turn<Phase, Work, ()>
+) -> Turn<Stage, Work, ()>
     requires inside { next * work.marks.cluster < work.marks.size }
     ensures counts { StepCounts (D.faults disk.old) (D.faults disk.new) (D.calls disk.old) (D.calls disk.new) result }
-    ensures falls { Falls (Phase.Counting work next None) result }
-    ensures content { Told (D.content disk.old) (D.content disk.new) (Steps target host (Phase.Counting work next None) result) }
+    ensures refusals { EndsOnlyBy (IsOpeningRefusal false) result }
+    ensures falls { Falls (Stage.Counting work next None) result }
+    ensures content { Told (D.content disk.old) (D.content disk.new) (Steps target host (Stage.Counting work next None) result) }
 {
     let header = work.header;
     let cluster = cluster_bytes(&header);
@@ -55,7 +57,7 @@ fn step_block<D: SharedDisk>(
     let k = next / span;
     let entries = u64::from(header.refcount_table_clusters) * (cluster / 8);
     if k >= entries {
-        return Turn::More(Phase::Counting(work, (k + 1) * span, None));
+        return Turn::More(Stage::Counting(work, (k + 1) * span, None));
     }
     let at = header.refcount_table_offset.saturating_add(8 * k);
     match read_sector(host, disk, target.place, at / 512 * 512) {
@@ -63,9 +65,9 @@ fn step_block<D: SharedDisk>(
         Ok(sector) => {
             let place = word_at(&sector, (at % 512 / 8) as usize) / 512 * 512;
             if place == 0 {
-                return Turn::More(Phase::Counting(work, (k + 1) * span, None));
+                return Turn::More(Stage::Counting(work, (k + 1) * span, None));
             }
-            Turn::More(Phase::Counting(work, next, Some(place)))
+            Turn::More(Stage::Counting(work, next, Some(place)))
         }
     }
 }
@@ -78,11 +80,12 @@ fn step_counts<D: SharedDisk>(
     work: Work,
     next: u64,
     place: u64,
-) -> Turn<Phase, Work, ()>
+) -> Turn<Stage, Work, ()>
     requires inside { next * work.marks.cluster < work.marks.size }
     ensures counts { StepCounts (D.faults disk.old) (D.faults disk.new) (D.calls disk.old) (D.calls disk.new) result }
-    ensures falls { Falls (Phase.Counting work next (Some place)) result }
-    ensures content { Told (D.content disk.old) (D.content disk.new) (Steps target host (Phase.Counting work next (Some place)) result) }
+    ensures refusals { EndsOnlyBy (IsOpeningRefusal false) result }
+    ensures falls { Falls (Stage.Counting work next (Some place)) result }
+    ensures content { Told (D.content disk.old) (D.content disk.new) (Steps target host (Stage.Counting work next (Some place)) result) }
 {
     let mut work = work;
     let span = cluster_bytes(&work.header) / 2;
@@ -92,9 +95,9 @@ fn step_counts<D: SharedDisk>(
         Ok(sector) => {
             count_sector(&mut work.marks, next, &sector);
             if (next + 256) % span == 0 {
-                return Turn::More(Phase::Counting(work, next + 256, None));
+                return Turn::More(Stage::Counting(work, next + 256, None));
             }
-            Turn::More(Phase::Counting(work, next + 256, Some(place)))
+            Turn::More(Stage::Counting(work, next + 256, Some(place)))
         }
     }
 }
@@ -107,10 +110,11 @@ pub(crate) fn step_counting<D: SharedDisk>(
     work: Work,
     next: u64,
     block: Option<u64>,
-) -> Turn<Phase, Work, ()>
+) -> Turn<Stage, Work, ()>
     ensures counts { StepCounts (D.faults disk.old) (D.faults disk.new) (D.calls disk.old) (D.calls disk.new) result }
-    ensures falls { Falls (Phase.Counting work next block) result }
-    ensures content { Told (D.content disk.old) (D.content disk.new) (Steps target host (Phase.Counting work next block) result) }
+    ensures refusals { EndsOnlyBy (IsOpeningRefusal false) result }
+    ensures falls { Falls (Stage.Counting work next block) result }
+    ensures content { Told (D.content disk.old) (D.content disk.new) (Steps target host (Stage.Counting work next block) result) }
 {
     if work.marks.is_past(next) {
         return finish_counting(target, work, next, block);

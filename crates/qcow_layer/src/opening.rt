@@ -1,11 +1,12 @@
 // Opening a layer: it is found sound, or its first fault is told.
 ghost use Rattle.std.specs.Prelude.{◌≡◌, MatchResult};
 ghost use Rattle.shared_disk.specs.Calls.{Told};
-ghost use Rattle.qcow_layer.specs.Phases.{StepCounts};
+ghost use Rattle.shared_disk.specs.Step.{EndsOnlyBy, StepCounts};
+ghost use Rattle.qcow_layer.specs.Stages.{IsOpeningRefusal};
 
 use crate::layer::Layer;
-use crate::phases::step_phase;
-use crate::work::{Phase, Target};
+use crate::stages::step_stage;
+use crate::work::{Stage, Target};
 use sd_names::{HostId, Id, Place, Refusal, Turn};
 use shared_disk::SharedDisk;
 use std::alloc::Global;
@@ -16,11 +17,11 @@ use std::alloc::Global;
 pub struct Opening {
     alloc: Global,
     target: Target,
-    phase: Phase,
+    stage: Stage,
 }
 
 impl Opening {
-    ghost use Rattle.qcow_layer.specs.Opening.{IsBegun, KeepsTarget, NearsEnd, OpensOn};
+    ghost use Rattle.qcow_layer.specs.Opening.{IsBegun, KeepsTarget, NearsEnd, OpensOn, may_lack_memory};
 
     /// The opening of the layer of a volume, whose file stands at `place` and whose capacity is so many bytes. It takes
     /// no memory yet, and never refuses.
@@ -34,7 +35,7 @@ impl Opening {
                 place,
                 capacity,
             },
-            phase: Phase::Begun,
+            stage: Stage::Begun,
         })
     }
 
@@ -42,17 +43,18 @@ impl Opening {
     /// where it isn't, `OutOfMemory` where the length is known and there is no room for a bit per cluster.
     pub fn step<D: SharedDisk>(self, host: HostId, disk: &mut D) -> Turn<Opening, Layer, ()>
         ensures counts { StepCounts (D.faults disk.old) (D.faults disk.new) (D.calls disk.old) (D.calls disk.new) result }
+        ensures refusals { EndsOnlyBy (IsOpeningRefusal (may_lack_memory self)) result }
         ensures keeps { KeepsTarget self result }
         ensures falls { NearsEnd self result }
         ensures content { Told (D.content disk.old) (D.content disk.new) (OpensOn self host result) }
     {
         let alloc = self.alloc;
         let target = self.target;
-        match step_phase(alloc, target, host, disk, self.phase) {
-            Turn::More(phase) => Turn::More(Opening {
+        match step_stage(alloc, target, host, disk, self.stage) {
+            Turn::More(stage) => Turn::More(Opening {
                 alloc,
                 target,
-                phase,
+                stage,
             }),
             Turn::Done(work) => Turn::Done(Layer { target, work }),
             Turn::Ended(_, refusal) => Turn::Ended((), refusal),

@@ -1,7 +1,8 @@
 // Reads of a layer's file, one call of the disk each. What stands past the file's end reads as zeros.
-ghost use Rattle.std.specs.Prelude.{◌≡◌, ℕ, ◌/◌};
+ghost use Rattle.std.specs.Prelude.{◌≡◌, ℕ, ◌/◌, IfErr};
 ghost use Rattle.shared_disk.specs.Calls.{IsAligned, Told};
-ghost use Rattle.qcow_layer.specs.Seen.{OneCall, ReadCause, ReadsHead, ReadsSector};
+ghost use Rattle.shared_disk.specs.Step.{IsDiskRefusal, ResultCounts};
+ghost use Rattle.qcow_layer.specs.Seen.{ReadsHead, ReadsSector};
 
 use sd_names::{HostId, Place, Refusal};
 use shared_disk::{SharedDisk, refusal_for};
@@ -17,8 +18,8 @@ pub(crate) fn read_sector<D: SharedDisk>(
     at: u64,
 ) -> Result<[u8; 512], Refusal>
     requires { IsAligned at }
-    ensures one { OneCall (D.faults disk.old) (D.faults disk.new) (D.calls disk.old) (D.calls disk.new) }
-    ensures cause { ReadCause (D.faults disk.old) (D.faults disk.new) result }
+    ensures counts { ResultCounts (D.faults disk.old) (D.faults disk.new) (D.calls disk.old) (D.calls disk.new) result }
+    ensures refusals { IfErr result IsDiskRefusal }
     ensures content { Told (D.content disk.old) (D.content disk.new) (ReadsSector host place (at / 512) (D.faults disk.new) result) }
 {
     let mut sector = [0; 512];
@@ -34,8 +35,8 @@ pub(crate) fn read_head<D: SharedDisk>(
     disk: &mut D,
     place: Place,
 ) -> Result<[u8; HEAD], Refusal>
-    ensures one { OneCall (D.faults disk.old) (D.faults disk.new) (D.calls disk.old) (D.calls disk.new) }
-    ensures cause { ReadCause (D.faults disk.old) (D.faults disk.new) result }
+    ensures counts { ResultCounts (D.faults disk.old) (D.faults disk.new) (D.calls disk.old) (D.calls disk.new) result }
+    ensures refusals { IfErr result IsDiskRefusal }
     ensures content { Told (D.content disk.old) (D.content disk.new) (ReadsHead host place (D.faults disk.new) result) }
 {
     let mut head = [0; HEAD];

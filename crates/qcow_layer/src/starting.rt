@@ -1,16 +1,17 @@
 // The first steps of an opening: the file's length, then its header, then the counts of its clusters.
-ghost use Rattle.std.specs.Prelude.{ℕ, ◌≡◌, ◌%◌, ◌^◌, ◌≤◌, ◌<◌};
+ghost use Rattle.std.specs.Prelude.{ℕ, ◌≡◌, ◌%◌, ◌^◌, ◌≤◌, ◌<◌, true, false};
 ghost use Rattle.shared_disk.specs.Calls.{Told};
 ghost use Rattle.sd_names.specs.Turn.{MatchTurn};
 ghost use Rattle.shared_disk.specs.Content.{Content};
-ghost use Rattle.qcow_layer.specs.Seen.{HasCauseNow};
+ghost use Rattle.shared_disk.specs.Refusal.{IsRisen};
+ghost use Rattle.shared_disk.specs.Step.{EndsOnlyBy, StepCounts};
 ghost use Rattle.qcow_layer.specs.Left.{Falls};
-ghost use Rattle.qcow_layer.specs.Phases.{BeginsCounting, IsGone, StepCounts, Steps};
+ghost use Rattle.qcow_layer.specs.Stages.{BeginsCounting, IsGone, IsOpeningRefusal, Steps};
 
 use crate::item::cluster_bytes;
 use crate::marks::Marks;
 use crate::reading::read_head;
-use crate::work::{Phase, Target, Work};
+use crate::work::{Stage, Target, Work};
 use qcow_format::{Header, backing_id};
 use sd_names::{HostId, Id, LayerFault, NoMemory, Refusal, Turn};
 use shared_disk::{SharedDisk, refusal_for};
@@ -21,10 +22,11 @@ pub(crate) fn step_begun<D: SharedDisk>(
     target: Target,
     host: HostId,
     disk: &mut D,
-) -> Turn<Phase, Work, ()>
+) -> Turn<Stage, Work, ()>
     ensures counts { StepCounts (D.faults disk.old) (D.faults disk.new) (D.calls disk.old) (D.calls disk.new) result }
-    ensures falls { Falls Phase.Begun result }
-    ensures content { Told (D.content disk.old) (D.content disk.new) (Steps target host Phase.Begun result) }
+    ensures refusals { EndsOnlyBy (IsOpeningRefusal false) result }
+    ensures falls { Falls Stage.Begun result }
+    ensures content { Told (D.content disk.old) (D.content disk.new) (Steps target host Stage.Begun result) }
 {
     match disk.length(host, target.place) {
         Err(answer) => Turn::Ended((), refusal_for(answer, disk)),
@@ -32,7 +34,7 @@ pub(crate) fn step_begun<D: SharedDisk>(
             if length < 512 {
                 return Turn::Ended((), Refusal::LayerRefused(target.volume, LayerFault::Short));
             }
-            Turn::More(Phase::Sized(length))
+            Turn::More(Stage::Sized(length))
         }
     }
 }
@@ -44,15 +46,16 @@ fn begin_counting(
     length: u64,
     header: Header,
     parent: Option<Id>,
-) -> Turn<Phase, Work, ()>
+) -> Turn<Stage, Work, ()>
     requires low { 12 ≤ header.cluster_bits }
     requires high { header.cluster_bits ≤ 21 }
     requires few { header.l1_size < 2 ^ 32 }
     requires l1_aligned { header.l1_table_offset % 2 ^ header.cluster_bits ≡ 0 }
     requires table_aligned { header.refcount_table_offset % 2 ^ header.cluster_bits ≡ 0 }
-    ensures cause { (before after : ℕ) → MatchTurn result (λ _. Unit {0}) (λ _. Unit {0}) (λ _ refusal. HasCauseNow before after refusal) }
+    ensures cause { (before after : ℕ) → EndsOnlyBy (IsRisen before after) result }
+    ensures refusals { EndsOnlyBy (IsOpeningRefusal true) result }
     ensures gone { (d : Content) → MatchTurn result (λ _. Unit {0}) (λ _. Unit {0}) (λ _ refusal. IsGone target refusal d) }
-    ensures falls { Falls (Phase.Sized length) result }
+    ensures falls { Falls (Stage.Sized length) result }
     ensures next { BeginsCounting target length header parent result }
 {
     if header.size < target.capacity {
@@ -69,7 +72,7 @@ fn begin_counting(
                 parent,
                 marks,
             };
-            Turn::More(Phase::Counting(work, 0, None))
+            Turn::More(Stage::Counting(work, 0, None))
         }
     }
 }
@@ -81,10 +84,11 @@ pub(crate) fn step_sized<D: SharedDisk>(
     host: HostId,
     disk: &mut D,
     length: u64,
-) -> Turn<Phase, Work, ()>
+) -> Turn<Stage, Work, ()>
     ensures counts { StepCounts (D.faults disk.old) (D.faults disk.new) (D.calls disk.old) (D.calls disk.new) result }
-    ensures falls { Falls (Phase.Sized length) result }
-    ensures content { Told (D.content disk.old) (D.content disk.new) (Steps target host (Phase.Sized length) result) }
+    ensures refusals { EndsOnlyBy (IsOpeningRefusal true) result }
+    ensures falls { Falls (Stage.Sized length) result }
+    ensures content { Told (D.content disk.old) (D.content disk.new) (Steps target host (Stage.Sized length) result) }
 {
     match read_head(host, disk, target.place) {
         Err(refusal) => Turn::Ended((), refusal),

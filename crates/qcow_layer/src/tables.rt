@@ -1,6 +1,6 @@
 // The entries of the refcount table and of the L1 and L2 tables, each admitted in its turn.
 ghost use Rattle.std.specs.Prelude.{◌≡◌, ◌+◌, ◌*◌, ◌^◌, ◌<◌, ◌≤◌, nat_le};
-ghost use Rattle.qcow_layer.specs.Positions.{PassesBlock, PassesBlocks, PassesEntry, PassesEntries, PassesL1};
+ghost use Rattle.qcow_layer.specs.Positions.{PassesBlock, PassesBlocks, PassesEntry, PassesEntries, PassesL1, PassesRow, row_end};
 
 use crate::item::{block_item, cluster_bytes, l1_item, l2_item};
 use crate::marks::Marks;
@@ -101,8 +101,8 @@ pub(crate) fn check_entries(
     None
 }
 
-/// L1 entry i: the L2 table that it names, or None, or its fault.
-pub(crate) fn admit_l1(
+// L1 entry i: the L2 table that it names, or None, or its fault.
+fn admit_l1(
     header: &Header,
     marks: &mut Marks,
     i: u64,
@@ -117,4 +117,44 @@ pub(crate) fn admit_l1(
         Some(objection) => Err(objection),
         None => Ok(item.name),
     }
+}
+
+/// An L2 table: the index of the L1 entry that names it, and its place.
+#[derive(Clone, Copy, Debug)]
+pub(crate) struct Table {
+    pub(crate) index: u32,
+    pub(crate) place: u64,
+}
+
+/// The L1 entry behind the last one that stands in the same sector as entry i.
+pub(crate) fn end_of_row(header: &Header, i: u32) -> u32
+    ensures { result ≡ row_end header.now i }
+{
+    header.l1_size.min((i / 64 * 64).saturating_add(64))
+}
+
+/// The L1 entries from i on that stand in this sector, up to the first that names an L2 table.
+pub(crate) fn pass_l1(
+    header: &Header,
+    marks: &mut Marks,
+    i: u32,
+    sector: &[u8; 512],
+) -> Result<Option<Table>, Objection>
+    requires bits { header.now.cluster_bits ≤ 21 }
+    requires inside { i < header.now.l1_size }
+    ensures { PassesRow header.now i (row_end header.now i) sector.now marks.old marks.new result }
+{
+    let end = end_of_row(header, i);
+    for k in i..end {
+        let bits = word_at(sector, (k % 64) as usize);
+        match admit_l1(header, marks, u64::from(k), bits) {
+            Err(objection) => return Err(objection),
+            Ok(found) => {
+                if let Some(place) = found {
+                    return Ok(Some(Table { index: k, place }));
+                }
+            }
+        }
+    }
+    Ok(None)
 }

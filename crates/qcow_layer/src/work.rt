@@ -29,7 +29,7 @@ pub(crate) struct Work {
 
 /// What is known of a layer that is opened.
 #[derive(Debug, Drop)]
-pub(crate) enum Phase {
+pub(crate) enum Stage {
     /// Nothing.
     Begun,
     /// The file's length, in bytes.
@@ -40,8 +40,9 @@ pub(crate) enum Phase {
     Blocks(Work, u64),
     /// The refcount table is fine, and the L1 entries below an index, with the tables that they name.
     L1(Work, u32),
-    /// So is an L1 entry, and the entries below an index in the table at a place, which it names.
-    L2(Work, u32, u64, u32),
+    /// So is an L1 entry, and the entries below an index in the table at a place, which it names; the sector of the L1
+    /// table that has the entry.
+    L2(Work, u32, u64, u32, [u8; 512]),
     /// A cluster at a place isn't free, and the positions before the one that names it are fine. Its refcount block, where
     /// that is known: the cluster's count tells what is wrong.
     Taken(Work, u64, Option<u64>),

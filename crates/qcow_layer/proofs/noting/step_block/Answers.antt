@@ -1,8 +1,8 @@
 use Rattle.std.proofs.Common.{ℕ, ◌≡◌, ◌+◌, ◌-◌, ◌*◌, ◌/◌, ◌^◌, ◌<◌, ◌≤◌, Some, None, subst, sym, arith}
 use Rattle.sd_names.specs.declared.turn.Turn.TheVariants.{More}
 use Rattle.qcow_layer.specs.Left.{Nears}
-use Rattle.qcow_layer.specs.Phases.{Steps}
-use Rattle.qcow_layer.specs.declared.work.Phase.TheVariants.{Counting}
+use Rattle.qcow_layer.specs.Stages.{Steps}
+use Rattle.qcow_layer.specs.declared.work.Stage.TheVariants.{Counting}
 use Rattle.qcow_layer.proofs.Blocks.{span_some, row_fits}
 use Rattle.qcow_layer.proofs.Noted.{skipped_nears, found_nears, block_past, block_none, block_found}
 use Rattle.qcow_layer.proofs.Walks.{read_refused}

@@ -1,5 +1,5 @@
 use Rattle.std.proofs.Common.{ℕ, ◌≡◌, ◌+◌, ◌-◌, ◌*◌, ◌/◌, ◌%◌, ◌^◌, ◌<◌, ◌≤◌, Some, subst, sym, arith}
-use Rattle.qcow_layer.specs.declared.work.Phase.TheVariants.{Counting}
+use Rattle.qcow_layer.specs.declared.work.Stage.TheVariants.{Counting}
 use Rattle.qcow_layer.proofs.Blocks.{span_some}
 use Rattle.qcow_layer.proofs.Counting.{low_number}
 use Rattle.qcow_layer.proofs.Noted.{turned_nears, more_nears, counts_turned, counts_more}

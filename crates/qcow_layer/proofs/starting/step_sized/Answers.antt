@@ -19,3 +19,6 @@ pub returns-in-Err-read-clause-content : goal.returns-in-Err-read-clause-content
 returns-in-Err-read-clause-content g c d tells =
     let call = c.in-Ok.ensures.content d tells in
     (call.0, call.1, sized_faulted c.args.target c.args.host c.args.length c.in-Ok.head c.in-Err-read.fault d call.0 call.2.0 call.2.1 c.in-Err-read.ensures.value)
+
+pub returns-in-Ok-read-clause-counts : goal.returns-in-Ok-read-clause-counts
+returns-in-Ok-read-clause-counts g c = record { one_call = c.in-Ok.ensures.counts.one_call; no_less = c.in-Ok.ensures.counts.no_less; cause = c.begin_counting.ensures.cause _ _ }

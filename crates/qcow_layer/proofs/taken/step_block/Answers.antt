@@ -1,6 +1,6 @@
 use Rattle.std.proofs.Common.{ℕ, ◌≡◌, ◌+◌, ◌-◌, ◌*◌, ◌/◌, ◌^◌, ◌<◌, ◌≤◌, Some, None, subst, sym, arith}
-use Rattle.qcow_layer.specs.Phases.{Steps}
-use Rattle.qcow_layer.specs.declared.work.Phase.TheVariants.{Taken}
+use Rattle.qcow_layer.specs.Stages.{Steps}
+use Rattle.qcow_layer.specs.declared.work.Stage.TheVariants.{Taken}
 use Rattle.sd_names.specs.declared.turn.Turn.TheVariants.{More}
 use Rattle.qcow_layer.proofs.Blocks.{span_some}
 use Rattle.qcow_layer.proofs.TakenWalks.{taken_past, taken_none, taken_found}

@@ -1,7 +1,7 @@
 use Rattle.std.proofs.Common.{ℕ, ◌≡◌, ◌+◌, ◌-◌, ◌*◌, ◌/◌, ◌%◌, ◌^◌, ◌<◌, ◌≤◌, Some, subst, sym, arith}
 use Rattle.std.proofs.Math.Nat.{mod-lt, pow-le-pow_right}
-use Rattle.qcow_layer.specs.Phases.{Steps}
-use Rattle.qcow_layer.specs.declared.work.Phase.TheVariants.{Taken}
+use Rattle.qcow_layer.specs.Stages.{Steps}
+use Rattle.qcow_layer.specs.declared.work.Stage.TheVariants.{Taken}
 use Rattle.qcow_layer.proofs.Blocks.{span_some}
 use Rattle.qcow_layer.proofs.TakenWalks.{count_zero, count_some}
 use Rattle.qcow_layer.proofs.Walks.{read_refused}

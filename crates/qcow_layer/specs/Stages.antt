@@ -1,5 +1,5 @@
 -- What an opening knows between its steps, and what a step does.
-use Rattle.std.specs.Prelude.{◌≡◌, ℕ, ◌+◌, ◌*◌, ◌/◌, ◌%◌, ◌<◌, ◌≤◌, false, nat_lt, List, Option, Some, None, Ok}
+use Rattle.std.specs.Prelude.{◌≡◌, ◌⊎◌, ℕ, ◌+◌, ◌*◌, ◌/◌, ◌%◌, ◌<◌, ◌≤◌, Bool, true, false, nat_lt, List, Option, Some, None, Ok}
 use Rattle.sd_names.specs.declared.id.Id.{Id}
 use Rattle.sd_names.specs.declared.refusal.Refusal.{Refusal}
 use Rattle.sd_names.specs.declared.refusal.Refusal.TheVariants.{DiskFault, Vanished, LayerRefused, OutOfMemory}
@@ -9,6 +9,7 @@ use Rattle.sd_names.specs.declared.turn.Turn.TheVariants.{More, Ended}
 use Rattle.sd_names.specs.Turn.{MatchTurn}
 use Rattle.shared_disk.specs.Content.{Content}
 use Rattle.shared_disk.specs.Calls.{IsSame}
+use Rattle.shared_disk.specs.Step.{IsDiskRefusal}
 use Rattle.qcow_format.specs.declared.header.Header.{Header}
 use Rattle.qcow_format.specs.Header.{header_of}
 use Rattle.qcow_format.specs.Name.{backing_id}
@@ -18,15 +19,15 @@ use Rattle.image_model.specs.Soundness.{layer_header, HasFault, IsSound}
 use Rattle.qcow_layer.specs.Checked.{Checked, IsTaken}
 use Rattle.qcow_layer.specs.Items.{layer_of}
 use Rattle.qcow_layer.specs.Marks.{MarksFile, free_by, used_in}
-use Rattle.qcow_layer.specs.Positions.{block_position, l1_position, l2_position}
-use Rattle.qcow_layer.specs.Seen.{IsSeen, HasCauseNow, head_of}
+use Rattle.qcow_layer.specs.Positions.{HasRow, block_position, l1_position, l2_position}
+use Rattle.qcow_layer.specs.Seen.{IsSeen, head_of}
 use Rattle.qcow_layer.specs.declared.objection.Objection.{Objection}
 use Rattle.qcow_layer.specs.declared.objection.Objection.TheVariants as objection
 use Rattle.qcow_layer.specs.declared.objection.Objection.TheVariants.{Fault}
 use Rattle.qcow_layer.specs.declared.work.Target.{Target}
 use Rattle.qcow_layer.specs.declared.work.Work.{Work}
-use Rattle.qcow_layer.specs.declared.work.Phase.{Phase}
-use Rattle.qcow_layer.specs.declared.work.Phase.TheVariants.{Begun, Sized, Counting, Blocks, L1, L2, Taken}
+use Rattle.qcow_layer.specs.declared.work.Stage.{Stage}
+use Rattle.qcow_layer.specs.declared.work.Stage.TheVariants.{Begun, Sized, Counting, Blocks, L1, L2, Taken}
 
 -- the layer that is looked at
 abbrev pub tables_of : Work → File → Tables
@@ -65,23 +66,24 @@ pub record IsDoubted (capacity : ℕ) (file : File) (work : Work) (place : ℕ) 
   pub known : (b : ℕ) → block ≡ Some b → block_place (tables_of work file) (place / cluster_size (tables_of work file) / block_span (tables_of work file)) ≡ b
   pub some : (b : ℕ) → block ≡ Some b → 0 < b
 
--- What is known in a phase of a file that has, or had when it was asked, so many sectors. `now` is how many it has.
-abbrev pub PhaseKnows : ℕ → ℕ → ℕ → (ℕ → List ℕ) → Phase → Type 0
-PhaseKnows capacity now count sectors Begun = count ≡ now
-PhaseKnows capacity now count sectors (Sized length) = (length ≡ 512 * count) × (512 ≤ length)
-PhaseKnows capacity now count sectors (Counting work next block) = IsCounting capacity (file_of count sectors) work next block
-PhaseKnows capacity now count sectors (Blocks work k) =
+-- What is known in a stage of a file that has, or had when it was asked, so many sectors. `now` is how many it has.
+abbrev pub StageKnows : ℕ → ℕ → ℕ → (ℕ → List ℕ) → Stage → Type 0
+StageKnows capacity now count sectors Begun = count ≡ now
+StageKnows capacity now count sectors (Sized length) = (length ≡ 512 * count) × (512 ≤ length)
+StageKnows capacity now count sectors (Counting work next block) = IsCounting capacity (file_of count sectors) work next block
+StageKnows capacity now count sectors (Blocks work k) =
     IsChecking capacity (file_of count sectors) work (block_position (tables_of work (file_of count sectors)) k) × (k % 64 ≡ 0) × (k ≤ work.header.refcount_table_clusters * entries (tables_of work (file_of count sectors)))
-PhaseKnows capacity now count sectors (L1 work i) =
+StageKnows capacity now count sectors (L1 work i) =
     IsChecking capacity (file_of count sectors) work (l1_position (tables_of work (file_of count sectors)) i)
-PhaseKnows capacity now count sectors (L2 work i table j) =
+StageKnows capacity now count sectors (L2 work i table j row) =
     IsChecking capacity (file_of count sectors) work (l2_position (tables_of work (file_of count sectors)) i j)
     × (i < work.header.l1_size) × (l1_entry (tables_of work (file_of count sectors)) i ≡ Ok (Some table)) × (j % 64 ≡ 0) × (j ≤ entries (tables_of work (file_of count sectors)))
-PhaseKnows capacity now count sectors (Taken work place block) = IsDoubted capacity (file_of count sectors) work place block
+    × HasRow (tables_of work (file_of count sectors)) i row
+StageKnows capacity now count sectors (Taken work place block) = IsDoubted capacity (file_of count sectors) work place block
 
-pub record Knows (target : Target) (host count : ℕ) (sectors : ℕ → List ℕ) (phase : Phase) (d : Content) : Type 0 where
+pub record Knows (target : Target) (host count : ℕ) (sectors : ℕ → List ℕ) (stage : Stage) (d : Content) : Type 0 where
   pub seen : IsSeen host target.place count sectors d
-  pub holds : PhaseKnows target.capacity seen.file.size count sectors phase
+  pub holds : StageKnows target.capacity seen.file.size count sectors stage
 
 -- A layer that was opened: its file is sound, and its size and its counts are known.
 pub record IsOpened (capacity : ℕ) (file : File) (work : Work) : Type 0 where
@@ -97,7 +99,7 @@ IsRefused target file OutOfMemory = Unit {0}
 IsRefused target file _ = ⊥
 
 -- what a step leaves where the file is known
-abbrev pub After : Target → ℕ → ℕ → (ℕ → List ℕ) → Turn Phase Work (Unit {0}) → Content → Type 0
+abbrev pub After : Target → ℕ → ℕ → (ℕ → List ℕ) → Turn Stage Work (Unit {0}) → Content → Type 0
 After target host count sectors turn e = MatchTurn turn
     (λ next. Knows target host count sectors next e)
     (λ work. IsOpened target.capacity (file_of count sectors) work)
@@ -109,27 +111,48 @@ IsGone target (Vanished a) d = (a ≡ absence.NoFile) × (d.file target.place �
 IsGone target _ d = Unit {0}
 
 -- a step changes nothing on the disk
-pub record Steps (target : Target) (host : ℕ) (phase : Phase) (turn : Turn Phase Work (Unit {0})) (d e : Content) : Type 0 where
+pub record Steps (target : Target) (host : ℕ) (stage : Stage) (turn : Turn Stage Work (Unit {0})) (d e : Content) : Type 0 where
   pub same : IsSame d e
   pub gone : MatchTurn turn (λ _. Unit {0}) (λ _. Unit {0}) (λ _ refusal. IsGone target refusal d)
-  pub after : (count : ℕ) (sectors : ℕ → List ℕ) → Knows target host count sectors phase d → After target host count sectors turn e
+  pub after : (count : ℕ) (sectors : ℕ → List ℕ) → Knows target host count sectors stage d → After target host count sectors turn e
 
 -- a step without a call of the disk: whatever is there, it is as a step that changes nothing
-abbrev pub StepsAlone : Target → Phase → Turn Phase Work (Unit {0}) → Type 0
-StepsAlone target phase turn = (host : ℕ) (d : Content) → Steps target host phase turn d d
+abbrev pub StepsAlone : Target → Stage → Turn Stage Work (Unit {0}) → Type 0
+StepsAlone target stage turn = (host : ℕ) (d : Content) → Steps target host stage turn d d
 
--- where a file of this length has this header, of which the profile's rules hold, the next phase is as it has to be
-abbrev pub BeginsCounting : Target → ℕ → Header → Option Id → Turn Phase Work (Unit {0}) → Type 0
+-- where the L1 entries below i are known, and a sector has those of the row of i, the next stage is as it has to be
+pub record PassesOn (target : Target) (work : Work) (i : ℕ) (row : List ℕ) (turn : Turn Stage Work (Unit {0})) : Type 0 where
+  pub gone : (d : Content) → MatchTurn turn (λ _. Unit {0}) (λ _. Unit {0}) (λ _ refusal. IsGone target refusal d)
+  pub after : (host count : ℕ) (sectors : ℕ → List ℕ) (d : Content) → IsSeen host target.place count sectors d
+      → IsChecking target.capacity (file_of count sectors) work (l1_position (tables_of work (file_of count sectors)) i)
+      → HasRow (tables_of work (file_of count sectors)) i row → After target host count sectors turn d
+
+-- where a file of this length has this header, of which the profile's rules hold, the next stage is as it has to be
+abbrev pub BeginsCounting : Target → ℕ → Header → Option Id → Turn Stage Work (Unit {0}) → Type 0
 BeginsCounting target length header parent turn = (host count : ℕ) (sectors : ℕ → List ℕ) (d : Content) → IsSeen host target.place count sectors d
     → length ≡ 512 * count → 512 ≤ length → header_of (head_of count sectors) ≡ Ok header → parent ≡ backing_id header (head_of count sectors) → After target host count sectors turn d
 
 -- a fault ends the opening, and a name of a cluster that isn't free asks for its count
-abbrev pub objected : Target → Work → Objection → Turn Phase Work (Unit {0})
+abbrev pub objected : Target → Work → Objection → Turn Stage Work (Unit {0})
 objected target work (Fault fault) = Ended tt (LayerRefused target.volume fault)
 objected target work (objection.Taken place) = More (Taken work place None)
 
--- what a step does to the disk's counts, whatever the disk tells
-pub record StepCounts {S T : Type 0} (faults faults' calls calls' : ℕ) (turn : Turn S T (Unit {0})) : Type 0 where
-  pub one_call : calls' ≤ calls + 1
-  pub no_less : faults ≤ faults'
-  pub cause : MatchTurn turn (λ _. Unit {0}) (λ _. Unit {0}) (λ _ refusal. HasCauseNow faults faults' refusal)
+-- the step that takes the map of clusters, which alone may want for memory
+abbrev pub takes_map : Stage → Bool
+takes_map Begun = false
+takes_map (Sized length) = true
+takes_map (Counting work next block) = false
+takes_map (Blocks work k) = false
+takes_map (L1 work i) = false
+takes_map (L2 work i table j row) = false
+takes_map (Taken work place block) = false
+
+-- a refusal of the layer itself, or want of memory where a step takes some
+abbrev pub IsOwnRefusal : Bool → Refusal → Type 0
+IsOwnRefusal takes (LayerRefused v fault) = Unit {0}
+IsOwnRefusal takes OutOfMemory = takes ≡ true
+IsOwnRefusal takes _ = ⊥
+
+-- the refusals that end a step of an opening
+abbrev pub IsOpeningRefusal : Bool → Refusal → Type 0
+IsOpeningRefusal takes refusal = IsDiskRefusal refusal ⊎ IsOwnRefusal takes refusal
