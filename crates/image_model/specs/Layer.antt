@@ -1,5 +1,5 @@
 -- What the tables of a qcow2 file say (qcow2 specification, "Host cluster management", "Cluster mapping").
-use Rattle.std.specs.Prelude.{ℕ, ◌+◌, ◌-◌, ◌*◌, ◌/◌, ◌%◌, ◌^◌, min, Bool, nat_lt, ◌==◌, ◌&&◌, ◌||◌, if◌then◌else◌, Option, Some, None, Result, Ok, Err}
+use Rattle.std.specs.Prelude.{ℕ, ◌+◌, ◌-◌, ◌*◌, ◌/◌, ◌%◌, ◌^◌, Bool, true, false, nat_lt, ◌==◌, ◌&&◌, ◌||◌, if◌then◌else◌, Option, Some, None, Result, Ok, Err}
 use Rattle.sd_names.specs.declared.fault.LayerFault.{LayerFault}
 use Rattle.qcow_format.specs.declared.header.Header.{Header}
 use Rattle.qcow_format.specs.declared.entry.Entry.{Entry}
@@ -73,6 +73,15 @@ entry_behind t j (Err fault) = Absent
 unfoldable pub entry_at : Tables → ℕ → Entry
 entry_at t k = if nat_lt (k / entries t) t.header.l1_size then entry_behind t (k % entries t) (l1_entry t (k / entries t)) else Absent
 
+abbrev pub names_table : Result (Option ℕ) LayerFault → Bool
+names_table (Ok (Some table)) = true
+names_table (Ok None) = false
+names_table (Err fault) = false
+
+-- whether the L2 table of cluster k is there
+abbrev pub has_table : Tables → ℕ → Bool
+has_table t k = nat_lt (k / entries t) t.header.l1_size && names_table (l1_entry t (k / entries t))
+
 -- the byte of a cluster, or None where the layer doesn't hold the cluster
 abbrev pub byte_behind : Tables → ℕ → Entry → Option ℕ
 byte_behind t offset Absent = None
@@ -83,16 +92,12 @@ byte_behind t offset (Data place) = Some (t.file.byte (place + offset))
 unfoldable pub own_byte : Tables → ℕ → Option ℕ
 own_byte t i = byte_behind t (i % cluster_size t) (entry_at t (i / cluster_size t))
 
--- ---- room
+-- ---- used clusters
 
--- A cluster that isn't free: one with a count above 0, and the first of a range that has no block yet, which becomes it.
+-- A cluster that a write doesn't take: one with a count above 0, and the first of a range without a block, which becomes it.
 unfoldable pub is_used : Tables → ℕ → Bool
 is_used t c = nat_lt 0 (count_of t c) || (c % block_span t == 0 && block_place t (c / block_span t) == 0)
 
 -- how many bytes the refcount table covers
 abbrev pub covered : Tables → ℕ
 covered t = t.header.refcount_table_clusters * entries t * block_span t * cluster_size t
-
--- the room in whole clusters
-abbrev pub room : Tables → ℕ
-room t = min t.file.size (covered t) / cluster_size t

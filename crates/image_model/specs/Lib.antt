@@ -1,3 +1,4 @@
 pub mod File
 pub mod Layer
+pub mod Room
 pub mod Soundness

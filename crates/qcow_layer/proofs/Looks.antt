@@ -13,10 +13,10 @@ use Rattle.qcow_format.specs.Entry.{entry_in, table_in, offset_in}
 use Rattle.qcow_format.specs.declared.entry.Entry.{Entry}
 use Rattle.qcow_format.specs.declared.entry.Entry.TheVariants.{Absent}
 use Rattle.image_model.specs.File.{File, file_of, sector_in}
-use Rattle.image_model.specs.Layer.{Tables, entries, entry_at, entry_behind, entry_or_absent, l1_at, l1_entry, l2_at, l2_entry}
+use Rattle.image_model.specs.Layer.{Tables, entries, entry_at, entry_behind, entry_or_absent, l1_at, l1_entry, l2_at, l2_entry, names_table}
 use Rattle.image_model.specs.Soundness.{IsClean}
 use Rattle.qcow_layer.specs.Items.{layer_of}
-use Rattle.qcow_layer.specs.Looking.{IsLookedUp, LooksUp, names_table}
+use Rattle.qcow_layer.specs.Looking.{IsLookedUp, LooksUp}
 use Rattle.qcow_layer.specs.Stages.{IsOpened, tables_of}
 use Rattle.qcow_layer.specs.Seen.{IsSeen}
 use Rattle.qcow_layer.specs.declared.layer.Layer.{Layer}

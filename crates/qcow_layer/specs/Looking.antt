@@ -8,7 +8,7 @@ use Rattle.sd_names.specs.Turn.{MatchTurn}
 use Rattle.shared_disk.specs.Content.{Content}
 use Rattle.shared_disk.specs.Calls.{IsSame}
 use Rattle.image_model.specs.File.{file_of}
-use Rattle.image_model.specs.Layer.{Tables, entries, entry_at, l1_entry}
+use Rattle.image_model.specs.Layer.{Tables, entries, entry_at, has_table, l1_entry}
 use Rattle.qcow_layer.specs.Stages.{IsGone, IsOpened, tables_of}
 use Rattle.qcow_layer.specs.Seen.{IsSeen}
 use Rattle.qcow_layer.specs.declared.layer.Layer.{Layer}
@@ -21,15 +21,6 @@ cluster_of looking = looking.cluster
 
 abbrev pub table_of : Looking → Option ℕ
 table_of looking = looking.table
-
-abbrev pub names_table : Result (Option ℕ) LayerFault → Bool
-names_table (Ok (Some table)) = true
-names_table (Ok None) = false
-names_table (Err fault) = false
-
--- whether the L2 table of a cluster is there
-abbrev pub has_table : Tables → ℕ → Bool
-has_table t k = nat_lt (k / entries t) t.header.l1_size && names_table (l1_entry t (k / entries t))
 
 -- the L2 table of a cluster is at this place
 abbrev pub IsTable : Tables → ℕ → ℕ → Type 0
