@@ -1,7 +1,12 @@
 // Layers that open, with the header and the parent that they keep.
-use super::{GIB, NAME, Outcome, VOLUME, alone, disk_with, lay, open_layer, over_raw, told};
+use super::{
+    FILE, GIB, NAME, Outcome, VOLUME, alone, disk_with, lay, lay_number, open_layer, over_raw, told,
+};
+use memory_disk::Memory;
+use qcow_layer::Opening;
 use qcow_format::{Header, MAGIC};
-use sd_names::{Format, HostId, Id};
+use sd_names::{Format, HostId, Id, Turn};
+use std::alloc::Global;
 use std::test::Fail;
 
 // The header of the layer over a raw volume.
@@ -84,5 +89,37 @@ fn a_name_across_a_sector(rt: HostRuntime) -> Result<(), Fail> {
         }
         Err(_) => assert!(rt; false),
     }
+    Ok(())
+}
+
+// Opens the layer, and says in how many steps.
+fn steps_to_open(alloc: Global, disk: &mut Memory, host: HostId, capacity: u64) -> Option<u32> {
+    let Ok(mut work) = Opening::begin(alloc, VOLUME, FILE, capacity) else {
+        return None;
+    };
+    for steps in 1..10_000 {
+        match work.step(host, disk) {
+            Turn::More(next) => work = next,
+            Turn::Done(_) => return Some(steps),
+            Turn::Ended((), _) => return None,
+        }
+    }
+    None
+}
+
+// A fresh layer has four clusters, of 128 sectors each: the header, the refcount table, its block and the L1 table. The L1
+// table of 1 GiB has 2 entries, in one sector, and that of 1 TiB has 2,048, in 32 sectors.
+#[test]
+fn steps_of_fresh_layers(rt: HostRuntime) -> Result<(), Fail> {
+    let host = HostId::new(1).ok_or("no host")?;
+    let mut file = over_raw(rt.alloc())?;
+    let mut disk = disk_with(rt.alloc(), u64::MAX, &file)?;
+    let small = steps_to_open(rt.alloc(), &mut disk, host, GIB).ok_or("not opened")?;
+    lay_number(&mut file, 24, 8, 1024 * GIB);
+    lay_number(&mut file, 36, 4, 2_048);
+    let mut disk = disk_with(rt.alloc(), u64::MAX, &file)?;
+    let large = steps_to_open(rt.alloc(), &mut disk, host, 1024 * GIB).ok_or("not opened")?;
+    assert!(rt; large <= 2 * 4 * 128 + 8);
+    assert_eq!(rt; large, small + 31);
     Ok(())
 }

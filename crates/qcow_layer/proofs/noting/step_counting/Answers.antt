@@ -1,4 +1,4 @@
-use Rattle.std.proofs.Common.{ℕ, Option, subst, sym}
+use Rattle.std.proofs.Common.{ℕ, Option, subst, sym, arith}
 use Rattle.qcow_layer.specs.Stages.{Steps}
 use Rattle.qcow_layer.specs.declared.work.Stage.TheVariants.{Counting}
 use Rattle.qcow_layer.proofs.noting.step_counting.Goals as goal
