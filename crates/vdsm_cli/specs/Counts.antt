@@ -1,20 +1,7 @@
 -- What the adapters have counted.
-use Rattle.std.specs.Prelude.{ℕ, List, string_bytes}
-use Rattle.vdsm_cli.specs.declared.folder_disk.FolderDisk.{FolderDisk}
+use Rattle.std.specs.Prelude.{ℕ}
 use Rattle.vdsm_cli.specs.declared.std_stream.StdSource.{StdSource}
 use Rattle.vdsm_cli.specs.declared.std_stream.StdSink.{StdSink}
-
--- how often a call of the disk has failed
-abbrev pub disk_faults : {R : Type 0} → FolderDisk R → ℕ
-disk_faults disk = disk.faults
-
--- how many calls of the disk were made
-abbrev pub disk_calls : {R : Type 0} → FolderDisk R → ℕ
-disk_calls disk = disk.calls
-
--- the path of the folder, in which all other paths begin
-abbrev pub disk_root : {R : Type 0} → FolderDisk R → List ℕ
-disk_root disk = string_bytes disk.folder.root
 
 -- how often a read has failed
 abbrev pub source_faults : {I : Type 0} → StdSource I → ℕ

@@ -1,10 +1,2 @@
-pub mod Length
-pub mod Path
-pub mod Answers
-pub mod Layout
-pub mod Listing
-pub mod Flushed
 pub mod Counts
 pub mod Streams
-pub mod Opened
-pub mod Swapped

@@ -2,22 +2,10 @@
 //! output.
 #![tactic(auto)]
 
-mod files;
-mod flushed;
-mod folder;
-mod folder_disk;
-#[cfg(test)]
-mod folder_tests;
-mod layout;
-mod listing;
-mod names;
-#[cfg(test)]
-mod rows;
 mod std_stream;
 #[cfg(test)]
 mod tests;
 mod words;
-mod written;
 
 use folder_disk::FolderDisk;
 use pool_session::vdsm;

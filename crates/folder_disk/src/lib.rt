@@ -1,0 +1,17 @@
+//! A folder of the file system as the disk that hosts share.
+#![tactic(auto)]
+
+mod dir_calls;
+mod file_calls;
+mod folder;
+mod folder_disk;
+mod names;
+
+pub use folder_disk::FolderDisk;
+
+#[cfg(test)]
+mod calls_tests;
+#[cfg(test)]
+mod folder_tests;
+#[cfg(test)]
+mod rows;

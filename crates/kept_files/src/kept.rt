@@ -1,0 +1,268 @@
+// A file that is kept open from its first call on, so that a flush goes through the descriptor that was written.
+ghost use Rattle.std.specs.Prelude.{◌≡◌, ◌↔◌, ◌≤◌, length, IfErr, IfOk, IsErr, IsTrue, OnOk};
+ghost use Rattle.kept_files.specs.Answers.{IsNoFile, IsNoFileOrOutside};
+ghost use Rattle.kept_files.specs.Flushed.{flushed_descriptor, flushed_place};
+ghost use Rattle.kept_files.specs.Kept.{kept_descriptor, kept_node, kept_place, kept_state};
+ghost use Rattle.kept_files.specs.Opened.{written_at, written_descriptor, written_length};
+ghost use Rattle.kept_files.specs.Swapped.{IsSwapped};
+
+use crate::files::{answer_for, count_before, offset_inside, shown_length};
+use crate::flushed::{Flush, FlushedFile, flush_file};
+use crate::node::{Found, Node};
+use crate::written::{Written, get, put};
+use sd_names::Place;
+use shared_disk::DiskAnswer;
+use std::fs::{File, Files, OpenOptions};
+
+/// How a kept file stands to its medium.
+#[derive(Clone, Copy, PartialEq, Eq)]
+pub enum State {
+    /// Nothing was given to it since it was flushed or opened.
+    Flushed,
+    /// Bytes or a length were given to it, and not flushed.
+    Unflushed,
+    /// A flush of it failed. What it was given may be lost, and the system would not tell so again.
+    Failed,
+}
+
+/// A file that is kept open.
+#[derive(Drop)]
+pub struct Kept {
+    file: File,
+    node: Node,
+    // The place under which it was last found.
+    place: Place,
+    state: State,
+}
+
+/// What an exchange of a sector came to.
+#[derive(Clone, Copy)]
+pub enum Swapped {
+    /// The next bytes were written, and the file was flushed.
+    Done(Written, FlushedFile),
+    /// The sector holds these bytes.
+    Found([u8; 512]),
+}
+
+impl Kept {
+    /// Opens the file that was found at a path. Another one that stands there by now is a fault. Since it is opened for
+    /// reading and writing, a pipe that took its place meanwhile doesn't hold the call up.
+    pub fn open<R: Files<File = File>>(
+        rt: &R,
+        path: &str,
+        place: &Place,
+        found: &Found,
+    ) -> Result<Kept, DiskAnswer>
+        ensures place { IfOk result (λ kept. kept_place kept ≡ place.now) }
+        ensures node { IfOk result (λ kept. kept_node kept ≡ found.now.node) }
+        ensures state { IfOk result (λ kept. kept_state kept ≡ State.Flushed) }
+        ensures answers { IfErr result IsNoFile }
+    {
+        let file = OpenOptions::new()
+            .read(true)
+            .write(true)
+            .open(rt, path)
+            .map_err(answer_for)?;
+        match file.metadata() {
+            Ok(metadata) if metadata.is_file() && Node::of(&metadata).is(&found.node) => Ok(Kept {
+                file,
+                node: found.node,
+                place: *place,
+                state: State::Flushed,
+            }),
+            _ => Err(DiskAnswer::Failed),
+        }
+    }
+
+    /// Which file of the system it is.
+    pub fn node(&self) -> Node
+        ensures { result ≡ kept_node self.now }
+    {
+        self.node
+    }
+
+    /// Whether something was given to it since it was flushed or opened, and no flush of it failed.
+    pub fn is_unflushed(&self) -> bool
+        ensures { IsTrue result ↔ (kept_state self.now ≡ State.Unflushed) }
+    {
+        matches!(self.state, State::Unflushed)
+    }
+
+    /// Whether a flush of it failed.
+    pub fn has_failed(&self) -> bool
+        ensures { IsTrue result ↔ (kept_state self.now ≡ State.Failed) }
+    {
+        matches!(self.state, State::Failed)
+    }
+
+    /// The same file, found under a place.
+    pub fn found_at(self, place: &Place) -> Kept
+        ensures place { kept_place result ≡ place.now }
+        ensures descriptor { kept_descriptor result ≡ kept_descriptor self }
+        ensures node { kept_node result ≡ kept_node self }
+        ensures state { kept_state result ≡ kept_state self }
+    {
+        Kept {
+            file: self.file,
+            node: self.node,
+            place: *place,
+            state: self.state,
+        }
+    }
+
+    /// Reads from `at` on to the end that is shown of the file or of `into`. Past what the file has there are zeros.
+    pub fn read(&self, stored: u64, at: u64, into: &mut [u8]) -> Result<usize, DiskAnswer>
+        ensures bound { IfOk result (λ count. count ≤ length into.old) }
+        ensures failed { kept_state self.now ≡ State.Failed → IsErr result }
+        ensures fault { IfErr result (λ answer. answer ≡ DiskAnswer.Failed) }
+    {
+        // The system may have dropped what it couldn't write.
+        if self.has_failed() {
+            return Err(DiskAnswer::Failed);
+        }
+        let count = count_before(shown_length(stored)?, at, into.len());
+        let kept = count_before(stored, at, count);
+        get(&self.file, at, &mut into[..kept])?;
+        into[kept..count].fill(0);
+        Ok(count)
+    }
+
+    // Notes that the file is to be given something. One that failed stays so, and is given nothing more.
+    fn begin_change(&mut self) -> Result<(), DiskAnswer>
+        ensures failed { kept_state self.old ≡ State.Failed → IsErr result }
+        ensures stays { kept_state self.old ≡ State.Failed → kept_state self.new ≡ State.Failed }
+        ensures unflushed { OnOk result (kept_state self.new ≡ State.Unflushed) }
+        ensures descriptor { kept_descriptor self.new ≡ kept_descriptor self.old }
+        ensures node { kept_node self.new ≡ kept_node self.old }
+        ensures fault { IfErr result (λ answer. answer ≡ DiskAnswer.Failed) }
+    {
+        match self.state {
+            State::Failed => Err(DiskAnswer::Failed),
+            State::Flushed | State::Unflushed => {
+                self.state = State::Unflushed;
+                Ok(())
+            }
+        }
+    }
+
+    /// Writes from `at` on, inside the length that is shown of the file.
+    pub fn write(&mut self, stored: u64, at: u64, bytes: &[u8]) -> Result<Written, DiskAnswer>
+        ensures descriptor { IfOk result (λ written. written_descriptor written ≡ kept_descriptor self.old) }
+        ensures at { IfOk result (λ written. written_at written ≡ at) }
+        ensures length { IfOk result (λ written. written_length written ≡ length bytes.now) }
+        ensures unflushed { OnOk result (kept_state self.new ≡ State.Unflushed) }
+        ensures stays { kept_state self.old ≡ State.Failed → kept_state self.new ≡ State.Failed }
+        ensures kept { kept_descriptor self.new ≡ kept_descriptor self.old }
+        ensures node { kept_node self.new ≡ kept_node self.old }
+        ensures answers { IfErr result IsNoFileOrOutside }
+    {
+        if count_before(shown_length(stored)?, at, bytes.len()) < bytes.len() {
+            return Err(DiskAnswer::OutOfFile);
+        }
+        self.begin_change()?;
+        put(&self.file, at, bytes)
+    }
+
+    /// Flushes the file, through the descriptor by which it was written. Where that fails the file has failed for good.
+    pub fn flush(&mut self, flush: Flush) -> Result<FlushedFile, DiskAnswer>
+        ensures flushed { IfOk result (λ flushed. flushed_place flushed ≡ kept_place self.old) }
+        ensures descriptor { IfOk result (λ flushed. flushed_descriptor flushed ≡ kept_descriptor self.old) }
+        ensures failed { kept_state self.old ≡ State.Failed → IsErr result }
+        ensures remembered { IfErr result (λ _. kept_state self.new ≡ State.Failed) }
+        ensures kept { kept_descriptor self.new ≡ kept_descriptor self.old }
+        ensures node { kept_node self.new ≡ kept_node self.old }
+        ensures fault { IfErr result (λ answer. answer ≡ DiskAnswer.Failed) }
+    {
+        if let State::Failed = self.state {
+            return Err(DiskAnswer::Failed);
+        }
+        match flush_file(&self.file, &self.place, flush) {
+            Ok(flushed) => {
+                self.state = State::Flushed;
+                Ok(flushed)
+            }
+            Err(answer) => {
+                self.state = State::Failed;
+                Err(answer)
+            }
+        }
+    }
+
+    /// Raises the file's length with zeros where it has fewer bytes, and flushes it.
+    pub fn grow(
+        &mut self,
+        stored: u64,
+        length: u64,
+    ) -> Result<FlushedFile, DiskAnswer>
+        ensures flushed { IfOk result (λ flushed. flushed_place flushed ≡ kept_place self.old) }
+        ensures descriptor { IfOk result (λ flushed. flushed_descriptor flushed ≡ kept_descriptor self.old) }
+        ensures failed { kept_state self.old ≡ State.Failed → IsErr result }
+        ensures stays { kept_state self.old ≡ State.Failed → kept_state self.new ≡ State.Failed }
+        ensures kept { kept_descriptor self.new ≡ kept_descriptor self.old }
+        ensures node { kept_node self.new ≡ kept_node self.old }
+        ensures fault { IfErr result (λ answer. answer ≡ DiskAnswer.Failed) }
+    {
+        self.begin_change()?;
+        if stored < length && self.file.set_len(length).is_err() {
+            return Err(DiskAnswer::Failed);
+        }
+        // A call that failed may have raised the length and not flushed it.
+        self.flush(Flush::All)
+    }
+
+    /// Puts `next` into a sector where it holds `expect`, and flushes the file; else answers what it holds. The file is
+    /// locked meanwhile, and a lock that isn't to be had at once is a fault.
+    pub fn exchange(
+        &mut self,
+        stored: u64,
+        sector: u64,
+        expect: &[u8; 512],
+        next: &[u8; 512],
+    ) -> Result<Swapped, DiskAnswer>
+        ensures swapped { IfOk result (IsSwapped (kept_place self.old) sector expect.now) }
+        ensures failed { kept_state self.old ≡ State.Failed → IsErr result }
+        ensures stays { kept_state self.old ≡ State.Failed → kept_state self.new ≡ State.Failed }
+        ensures kept { kept_descriptor self.new ≡ kept_descriptor self.old }
+        ensures node { kept_node self.new ≡ kept_node self.old }
+        ensures answers { IfErr result IsNoFileOrOutside }
+    {
+        if self.has_failed() || self.file.try_lock().is_err() {
+            return Err(DiskAnswer::Failed);
+        }
+        let answer = self.exchange_locked(stored, sector, expect, next);
+        match self.file.unlock() {
+            Ok(()) => answer,
+            Err(_) => Err(DiskAnswer::Failed),
+        }
+    }
+
+    // Exchanges a sector of a file that is locked.
+    fn exchange_locked(
+        &mut self,
+        stored: u64,
+        sector: u64,
+        expect: &[u8; 512],
+        next: &[u8; 512],
+    ) -> Result<Swapped, DiskAnswer>
+        ensures swapped { IfOk result (IsSwapped (kept_place self.old) sector expect.now) }
+        ensures stays { kept_state self.old ≡ State.Failed → kept_state self.new ≡ State.Failed }
+        ensures kept { kept_descriptor self.new ≡ kept_descriptor self.old }
+        ensures node { kept_node self.new ≡ kept_node self.old }
+        ensures answers { IfErr result IsNoFileOrOutside }
+    {
+        let at = match offset_inside(shown_length(stored)?, sector) {
+            Some(at) => at,
+            None => return Err(DiskAnswer::OutOfFile),
+        };
+        let mut found = [0; 512];
+        let kept = count_before(stored, at, 512);
+        get(&self.file, at, &mut found[..kept])?;
+        if found != *expect {
+            return Ok(Swapped::Found(found));
+        }
+        self.begin_change()?;
+        let written = put(&self.file, at, next)?;
+        let flushed = self.flush(Flush::Bytes)?;
+        Ok(Swapped::Done(written, flushed))
+    }
+}

@@ -1,6 +1,0 @@
-use Rattle.vdsm_cli.proofs.ListingLemmas.{answers_above}
-use Rattle.vdsm_cli.proofs.listing.least_above.Goals as goal
-
-pub loop-preserved : goal.loop-preserved
-loop-preserved g c =
-    answers_above g.E.Entry.order (g.E.Entry.stands c.args.dir.now) c.args.after.now _ c.loop.least c.least_in_piece-least.result c.least_in_piece-least.ensures.from c.loop.invariant

@@ -1,5 +1,0 @@
-use Rattle.vdsm_cli.proofs.ListingLemmas.{Seen}
-use Rattle.vdsm_cli.proofs.listing.least_in_piece.Given as goal
-
-abbrev pub invariant-loop-end : goal.invariant-loop-end
-invariant-loop-end g l = Seen g.E.Entry.order (g.E.Entry.stands l.dir) l.after l.piece l.initial.least l.least l.start l.end
