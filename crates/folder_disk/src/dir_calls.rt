@@ -3,9 +3,9 @@ ghost use Rattle.std.specs.Prelude.{◌≡◌, IfOk, IfErr};
 ghost use Rattle.folder_layout.specs.Listing.{AnswersAbove};
 ghost use Rattle.kept_files.specs.Answers.{IsNoFile, IsNoFileOrNotEmpty};
 ghost use Rattle.kept_files.specs.Flushed.{flushed_dir};
-ghost use Rattle.shared_disk.specs.Calls.{parent_of};
+ghost use Rattle.sd_names.specs.Place.{parent_of};
 
-use crate::folder::{Folder, parent};
+use crate::folder::Folder;
 use crate::names;
 use folder_layout::{Entry, PIECE, is_below, least_above, read_dir, read_name};
 use kept_files::{FlushedDir, answer_for};
@@ -24,7 +24,7 @@ impl<R: Files> Folder<R> {
         self.settle()?;
         self.check_way(dir)?;
         let done = self.empty_and_remove(dir);
-        self.changed(&parent(dir), done)
+        self.changed(&dir.parent(), done)
     }
 
     // Removes a folder with what isn't shown of it.

@@ -1,6 +1,6 @@
 // The files and folders of a shared folder, by their places.
 ghost use Rattle.std.specs.Prelude.{◌≡◌, ◌⊎◌, ◌++◌, string_bytes, None, Err, IfOk, IfErr, OnOk};
-ghost use Rattle.shared_disk.specs.Calls.{parent_of};
+ghost use Rattle.sd_names.specs.Place.{parent_of};
 ghost use Rattle.folder_disk.specs.Path.{folder_named, path_below};
 ghost use Rattle.kept_files.specs.Answers.{IsNoFile, IsNoFileOrExists};
 ghost use Rattle.kept_files.specs.Flushed.{flushed_dir};
@@ -55,19 +55,6 @@ impl<R: Files + Drop> Folder<R> {
             }),
             _ => Err(NoMemory),
         }
-    }
-}
-
-/// The folder in which a folder stands; the shared folder stands in itself.
-pub(crate) fn parent(dir: &Dir) -> Dir
-    ensures { result ≡ parent_of dir.now }
-{
-    match *dir {
-        Dir::Root => Dir::Root,
-        Dir::Domain(_) => Dir::Root,
-        Dir::DomMd(sd) | Dir::Images(sd) | Dir::Master(sd) => Dir::Domain(sd),
-        Dir::Image(sd, _) | Dir::Removed(sd, _) => Dir::Images(sd),
-        Dir::Tasks(sd) => Dir::Master(sd),
     }
 }
 
@@ -149,8 +136,8 @@ impl<R: Files> Folder<R> {
         ensures owed { self.new.owed ≡ self.old.owed }
         ensures answers { IfErr result IsNoFile }
     {
-        let above = parent(dir);
-        self.check_dir(&parent(&above))?;
+        let above = dir.parent();
+        self.check_dir(&above.parent())?;
         self.check_dir(&above)?;
         self.check_dir(dir)
     }
@@ -258,7 +245,7 @@ impl<R: Files> Folder<R> {
         ensures flushed { IfOk result (λ flushed. flushed_dir flushed ≡ parent_of dir.now) }
         ensures answers { IfErr result IsNoFileOrExists }
     {
-        let above = parent(dir);
+        let above = dir.parent();
         self.settle()?;
         self.check_way(&above)?;
         self.go_to(&dir.path())?;
@@ -276,6 +263,6 @@ impl<R: Files> Folder<R> {
         self.go_to(&from.path())?;
         self.aim_at(&to.path())?;
         let done = names::move_dir(&self.rt, self.path.as_str(), self.target.as_str());
-        self.changed(&parent(from), done)
+        self.changed(&from.parent(), done)
     }
 }

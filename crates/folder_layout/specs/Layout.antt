@@ -5,7 +5,7 @@ use Rattle.sd_names.specs.declared.place.Dir.{Dir}
 use Rattle.sd_names.specs.declared.place.Dir.TheVariants.{Root, DomMd, Image, Removed, Tasks}
 use Rattle.sd_names.specs.declared.place.Name.{Name}
 use Rattle.sd_names.specs.declared.place.Name.TheVariants.{Metadata, MetadataNew, Leases, Inbox, Outbox, Volume, Meta, MetaNew, MetaVolatile, VolumeLease, Task, TaskNew}
-use Rattle.shared_disk.specs.Calls.{parent_of}
+use Rattle.sd_names.specs.Place.{parent_of}
 
 -- the names of a domain's own files, of the files of an image, and of tasks
 abbrev pub IsDomainFile : Name → Type 0

@@ -1,5 +1,5 @@
 -- A file that is kept open.
-use Rattle.std.specs.Prelude.{ℤ}
+use Rattle.std.specs.Prelude.{◌≡◌, ℤ}
 use Rattle.std.specs.Fd.{file_raw_fd}
 use Rattle.sd_names.specs.declared.place.Place.{Place}
 use Rattle.kept_files.specs.declared.node.Node.{Node}
@@ -19,3 +19,7 @@ kept_state kept = kept.state
 
 abbrev pub kept_place : Kept → Place
 kept_place kept = kept.place
+
+-- the same descriptor of the same file, found under the same place
+abbrev pub IsSameFile : Kept → Kept → Type 0
+IsSameFile kept kept' = (kept_descriptor kept' ≡ kept_descriptor kept) × (kept_node kept' ≡ kept_node kept) × (kept_place kept' ≡ kept_place kept)

@@ -2,7 +2,7 @@
 ghost use Rattle.std.specs.Prelude.{◌≡◌, ◌↔◌, ◌≤◌, length, IfErr, IfOk, IsErr, IsTrue, OnOk};
 ghost use Rattle.kept_files.specs.Answers.{IsNoFile, IsNoFileOrOutside};
 ghost use Rattle.kept_files.specs.Flushed.{flushed_descriptor, flushed_place};
-ghost use Rattle.kept_files.specs.Kept.{kept_descriptor, kept_node, kept_place, kept_state};
+ghost use Rattle.kept_files.specs.Kept.{IsSameFile, kept_descriptor, kept_node, kept_place, kept_state};
 ghost use Rattle.kept_files.specs.Opened.{written_at, written_descriptor, written_length};
 ghost use Rattle.kept_files.specs.Swapped.{IsSwapped};
 
@@ -132,8 +132,7 @@ impl Kept {
         ensures failed { kept_state self.old ≡ State.Failed → IsErr result }
         ensures stays { kept_state self.old ≡ State.Failed → kept_state self.new ≡ State.Failed }
         ensures unflushed { OnOk result (kept_state self.new ≡ State.Unflushed) }
-        ensures descriptor { kept_descriptor self.new ≡ kept_descriptor self.old }
-        ensures node { kept_node self.new ≡ kept_node self.old }
+        ensures same { IsSameFile self.old self.new }
         ensures fault { IfErr result (λ answer. answer ≡ DiskAnswer.Failed) }
     {
         match self.state {
@@ -152,8 +151,7 @@ impl Kept {
         ensures length { IfOk result (λ written. written_length written ≡ length bytes.now) }
         ensures unflushed { OnOk result (kept_state self.new ≡ State.Unflushed) }
         ensures stays { kept_state self.old ≡ State.Failed → kept_state self.new ≡ State.Failed }
-        ensures kept { kept_descriptor self.new ≡ kept_descriptor self.old }
-        ensures node { kept_node self.new ≡ kept_node self.old }
+        ensures same { IsSameFile self.old self.new }
         ensures answers { IfErr result IsNoFileOrOutside }
     {
         if count_before(shown_length(stored)?, at, bytes.len()) < bytes.len() {
@@ -169,8 +167,7 @@ impl Kept {
         ensures descriptor { IfOk result (λ flushed. flushed_descriptor flushed ≡ kept_descriptor self.old) }
         ensures failed { kept_state self.old ≡ State.Failed → IsErr result }
         ensures remembered { IfErr result (λ _. kept_state self.new ≡ State.Failed) }
-        ensures kept { kept_descriptor self.new ≡ kept_descriptor self.old }
-        ensures node { kept_node self.new ≡ kept_node self.old }
+        ensures same { IsSameFile self.old self.new }
         ensures fault { IfErr result (λ answer. answer ≡ DiskAnswer.Failed) }
     {
         if let State::Failed = self.state {
@@ -198,8 +195,7 @@ impl Kept {
         ensures descriptor { IfOk result (λ flushed. flushed_descriptor flushed ≡ kept_descriptor self.old) }
         ensures failed { kept_state self.old ≡ State.Failed → IsErr result }
         ensures stays { kept_state self.old ≡ State.Failed → kept_state self.new ≡ State.Failed }
-        ensures kept { kept_descriptor self.new ≡ kept_descriptor self.old }
-        ensures node { kept_node self.new ≡ kept_node self.old }
+        ensures same { IsSameFile self.old self.new }
         ensures fault { IfErr result (λ answer. answer ≡ DiskAnswer.Failed) }
     {
         self.begin_change()?;
@@ -222,8 +218,7 @@ impl Kept {
         ensures swapped { IfOk result (IsSwapped (kept_place self.old) sector expect.now) }
         ensures failed { kept_state self.old ≡ State.Failed → IsErr result }
         ensures stays { kept_state self.old ≡ State.Failed → kept_state self.new ≡ State.Failed }
-        ensures kept { kept_descriptor self.new ≡ kept_descriptor self.old }
-        ensures node { kept_node self.new ≡ kept_node self.old }
+        ensures same { IsSameFile self.old self.new }
         ensures answers { IfErr result IsNoFileOrOutside }
     {
         if self.has_failed() || self.file.try_lock().is_err() {
@@ -246,8 +241,7 @@ impl Kept {
     ) -> Result<Swapped, DiskAnswer>
         ensures swapped { IfOk result (IsSwapped (kept_place self.old) sector expect.now) }
         ensures stays { kept_state self.old ≡ State.Failed → kept_state self.new ≡ State.Failed }
-        ensures kept { kept_descriptor self.new ≡ kept_descriptor self.old }
-        ensures node { kept_node self.new ≡ kept_node self.old }
+        ensures same { IsSameFile self.old self.new }
         ensures answers { IfErr result IsNoFileOrOutside }
     {
         let at = match offset_inside(shown_length(stored)?, sector) {
