@@ -7,8 +7,8 @@ ghost use Rattle.shared_disk.specs.Calls.{IsAligned};
 use folder_disk::FolderDisk;
 use sd_names::{Dir, HostId, Id, Name, Place};
 use shared_disk::{DiskAnswer, Exchanged, SharedDisk};
-use std::{env, io};
 use std::io::ErrorKind;
+use std::{env, io};
 
 const DOMAIN: Id = Id([0x11; 16]);
 

@@ -3,8 +3,8 @@ use crate::folder_disk::FolderDisk;
 use crate::rows::{Call, OnFile, OnFolder, first_other};
 use sd_names::{Dir, HostId, Id, Name, Place};
 use shared_disk::{DiskAnswer, SharedDisk};
-use std::test::Fail;
 use std::fs;
+use std::test::Fail;
 
 // The shared folder of the test, in the folder that it runs in.
 const ROOT: &str = "shared_folder";
@@ -96,6 +96,11 @@ fn a_short_file_is_padded_with_zeros(rt: HostRuntime) -> Result<(), Fail> {
     assert!(rt; disk.read_at(host, place, 0, &mut sector) == Ok(512));
     assert!(rt; sector[0] == b'x');
     assert!(rt; sector[1..] == [0; 511]);
+    // Another file in its place is the one that is read from then on.
+    fs::write(&rt, "another", "y")?;
+    fs::rename(&rt, "another", "metadata")?;
+    assert!(rt; disk.read_at(host, place, 0, &mut sector) == Ok(512));
+    assert!(rt; sector[0] == b'y');
     fs::remove_file(&rt, "metadata")?;
     Ok(())
 }

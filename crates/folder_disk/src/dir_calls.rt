@@ -181,6 +181,6 @@ impl<R: Files> Folder<R> {
         self.go_on("/")?;
         self.rt
             .open_dir(self.path.as_str())
-            .map_err(answer_for)
+            .map_err(|error| answer_for(error))
     }
 }

@@ -22,9 +22,7 @@ impl<R: Files<File = File> + RandomSource> Folder<R> {
         ensures answers { IfErr result IsNoFile }
     {
         let found = self.look_at(place)?;
-        let kept = self
-            .open
-            .take(&self.rt, self.path.as_str(), place, &found)?;
+        let kept = self.open.take(&self.rt, self.path.as_str(), place, &found)?;
         Ok((kept, found))
     }
 

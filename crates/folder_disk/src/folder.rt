@@ -6,7 +6,7 @@ ghost use Rattle.kept_files.specs.Answers.{IsNoFile, IsNoFileOrExists};
 ghost use Rattle.kept_files.specs.Flushed.{flushed_dir};
 
 use crate::names;
-use kept_files::{Found, FlushedDir, OpenFiles, flush_dir, look, shown_length};
+use kept_files::{FlushedDir, Found, OpenFiles, flush_dir, look, shown_length};
 use sd_names::{Dir, Name, NoMemory, PathText, Place};
 use shared_disk::DiskAnswer;
 use std::alloc::{AllocError, Global};

@@ -1,4 +1,5 @@
 // The shared disk as a folder of the file system.
+ghost use Rattle.std.proofs.Common.{rules};
 ghost use Rattle.std.specs.Prelude.{◌≡◌, ◌↔◌, ◌+◌, ◌-◌, ◌^◌, min, IfOk, IsOk, Err};
 ghost use Rattle.shared_disk.specs.declared.disk.DiskAnswer.{DiskAnswer};
 ghost use Rattle.shared_disk.specs.Calls.{HasCause};
@@ -187,4 +188,6 @@ impl<R: Files<File = File> + RandomSource> SharedDisk for FolderDisk<R> {
     fn fault_count(&self) -> u64 {
         self.faults
     }
+
+    ghost well_formed = { Prim.search rules };
 }

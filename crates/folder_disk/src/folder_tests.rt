@@ -1,7 +1,7 @@
 // The calls on names, lengths, sectors and listings, with every answer, in a real folder.
+use crate::calls_tests::{OTHER, SD};
 use crate::folder_disk::FolderDisk;
 use crate::rows::{Call, OnFile, OnFolder, first_other};
-use crate::calls_tests::{OTHER, SD};
 use sd_names::{Dir, HostId, Id, Name, Place};
 use shared_disk::{DiskAnswer, Exchanged, SharedDisk};
 use std::fs;

@@ -22,7 +22,9 @@ pub(crate) fn make_dir<R: Files>(rt: &R, path: &str) -> Result<(), DiskAnswer>
 pub(crate) fn check_dir<R: Files>(rt: &R, path: &str) -> Result<(), DiskAnswer>
     ensures answers { IfErr result IsNoFile }
 {
-    let metadata = rt.symlink_metadata(path).map_err(answer_for)?;
+    let metadata = rt
+        .symlink_metadata(path)
+        .map_err(|error| answer_for(error))?;
     if metadata.is_dir() {
         Ok(())
     } else {
@@ -42,14 +44,14 @@ fn is_dir<R: Files>(rt: &R, path: &str) -> bool {
 pub(crate) fn rename<R: Files>(rt: &R, from: &str, to: &str) -> Result<(), DiskAnswer>
     ensures answers { IfErr result IsNoFile }
 {
-    rt.rename(from, to).map_err(answer_for)
+    rt.rename(from, to).map_err(|error| answer_for(error))
 }
 
 /// Removes a file.
 pub(crate) fn remove<R: Files>(rt: &R, path: &str) -> Result<(), DiskAnswer>
     ensures answers { IfErr result IsNoFile }
 {
-    rt.remove_file(path).map_err(answer_for)
+    rt.remove_file(path).map_err(|error| answer_for(error))
 }
 
 /// Removes a folder where it is empty, and tells whether it was.
@@ -114,5 +116,6 @@ pub(crate) fn take_away<R: Files>(
 pub(crate) fn remove_whole<R: Files>(rt: &R, alloc: Global, path: &str) -> Result<(), DiskAnswer>
     ensures answers { IfErr result IsNoFile }
 {
-    rt.remove_dir_all(alloc, path).map_err(answer_for)
+    rt.remove_dir_all(alloc, path)
+        .map_err(|error| answer_for(error))
 }

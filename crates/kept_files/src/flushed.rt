@@ -34,7 +34,11 @@ pub enum Flush {
 }
 
 /// Flushes what was changed of the open file of a place.
-pub(crate) fn flush_file(file: &File, place: &Place, flush: Flush) -> Result<FlushedFile, DiskAnswer>
+pub(crate) fn flush_file(
+    file: &File,
+    place: &Place,
+    flush: Flush,
+) -> Result<FlushedFile, DiskAnswer>
     ensures place { IfOk result (λ flushed. flushed_place flushed ≡ place.now) }
     ensures descriptor { IfOk result (λ flushed. flushed_descriptor flushed ≡ file_raw_fd file.now) }
     ensures fault { IfErr result (λ answer. answer ≡ DiskAnswer.Failed) }

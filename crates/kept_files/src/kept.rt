@@ -186,11 +186,7 @@ impl Kept {
     }
 
     /// Raises the file's length with zeros where it has fewer bytes, and flushes it.
-    pub fn grow(
-        &mut self,
-        stored: u64,
-        length: u64,
-    ) -> Result<FlushedFile, DiskAnswer>
+    pub fn grow(&mut self, stored: u64, length: u64) -> Result<FlushedFile, DiskAnswer>
         ensures flushed { IfOk result (λ flushed. flushed_place flushed ≡ kept_place self.old) }
         ensures descriptor { IfOk result (λ flushed. flushed_descriptor flushed ≡ kept_descriptor self.old) }
         ensures failed { kept_state self.old ≡ State.Failed → IsErr result }
