@@ -13,3 +13,4 @@ pub mod Slots
 pub mod Synced
 pub mod Within
 pub mod Pieces
+pub mod Turning

@@ -1,5 +1,5 @@
 -- The calls of a memory disk keep its limits.
-use Rattle.std.proofs.Common.{◌≡◌, ℕ, ◌+◌, ◌-◌, ◌^◌, ◌<◌, ◌≤◌, min, List, [], Some, Result, Ok, Err, MatchResult, is_ok, true≢false, OnOk, OnErr, refl, sym, ap, subst, subst₂, ◌∙◌, inl, inr, arith}
+use Rattle.std.proofs.Common.{◌≡◌, ℕ, ◌+◌, ◌-◌, ◌^◌, ◌<◌, ◌≤◌, min, List, Some, Result, Ok, Err, MatchResult, is_ok, true≢false, OnOk, OnErr, refl, sym, ap, subst, subst₂, ◌∙◌, inl, inr, arith}
 use Rattle.std.specs.List.{Contains}
 use Rattle.std.specs.Result.{IsErrOf}
 use Rattle.std.proofs.lemmas.Option.{same_Some}
@@ -24,9 +24,6 @@ on_ok (Err e) P w = record {}
 on_err : {T : Type 0} (result : Result T DiskAnswer) (P : Type 0) → P → OnErr result P
 on_err (Ok x) P w = record {}
 on_err (Err e) P w = w
-
-pub none_listed : (n : ℕ) → Contains [] n → ⊥
-none_listed n w = absurd (omega (arith, w.1))
 
 pub none_added : {T : Type 0} (s t : Store) (result : Result T DiskAnswer) → OnOk result (units t ≡ units s) → OnOk result (Uses (adds 0) (units s) (units t))
 none_added s t result w = on_ok_weaker result (λ e. omega (arith, e)) w

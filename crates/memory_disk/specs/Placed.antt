@@ -1,25 +1,36 @@
 -- What a memory disk puts onto the medium, and tells of it, past all hosts.
-use Rattle.std.specs.Prelude.{◌≡◌, ◌≢◌, ℕ, ◌+◌, ◌-◌, ◌*◌, ◌/◌, ◌%◌, ◌<◌, min, true, List, length, drop, get_or, Option, Some, None, Result, Ok, Err}
+use Rattle.std.specs.Prelude.{◌≡◌, ◌≢◌, ◌⊎◌, ℕ, zero, suc, ◌≤◌, ◌+◌, ◌-◌, ◌*◌, ◌/◌, ◌%◌, ◌<◌, min, true, List, length, drop, get_or, Option, Some, None, Result, Ok, Err}
 use Rattle.sd_names.specs.declared.place.Dir.{Dir}
 use Rattle.sd_names.specs.declared.place.Place.{Place}
-use Rattle.shared_disk.specs.Calls.{IsSame, sectors_in}
-use Rattle.shared_disk.specs.Content.{Content, File, sector_of}
+use Rattle.shared_disk.specs.Calls.{IsSame, parent_of, sectors_in}
+use Rattle.shared_disk.specs.Content.{Content, File, sector_of, zero_sector}
 use Rattle.shared_disk.specs.Crash.{IsSettled}
 
 -- the file has these bytes, of whole sectors, on the medium, and nothing in it is unsynced
 pub record HasBytes (bytes : List ℕ) (f : File) : Type 0 where
   pub size : f.size ≡ sectors_in bytes
   pub sectors : (k : ℕ) → k < f.size → f.stable k ≡ sector_of bytes k
+  pub past : (k : ℕ) → f.size ≤ k → f.stable k ≡ zero_sector
   pub settled : IsSettled f
 
--- a file with these bytes stands at the place, in a folder that is there; all else is as it was
+-- the folder so many levels above a folder
+abbrev pub above : ℕ → Dir → Dir
+above zero dir = dir
+above (suc n) dir = parent_of (above n dir)
+
+-- a folder is there, with those above it; every other is there where it was
+pub record IsPathMade (d : Content) (dir : Dir) (e : Content) : Type 0 where
+  pub path : (n : ℕ) → e.dir (above n dir) ≡ true
+  pub kept : (q : Dir) → d.dir q ≡ true → e.dir q ≡ true
+  pub no_more : (q : Dir) → e.dir q ≡ true → (d.dir q ≡ true) ⊎ ((n : ℕ) × (q ≡ above n dir))
+
+-- a file with these bytes stands at the place, in a folder that is there; every other file is as it was
 pub record IsPlaced (d : Content) (place : Place) (bytes : List ℕ) (e : Content) : Type 0 where
   pub file : (f : File) × (e.file place ≡ Some f) × HasBytes bytes f
-  pub folder : e.dir place.dir ≡ true
-  pub dirs : (q : Dir) → q ≢ place.dir → e.dir q ≡ d.dir q
+  pub dirs : IsPathMade d place.dir e
   pub others : (q : Place) → q ≢ place → e.file q ≡ d.file q
 
--- A file is put, with its folder. For want of memory nothing has changed.
+-- A file is put, with the folders that it stands in. For want of memory nothing has changed.
 abbrev pub Places : {E : Type 0} → Content → Place → List ℕ → Result (Unit {0}) E → Content → Type 0
 Places d place bytes (Ok _) e = IsPlaced d place bytes e
 Places d place bytes (Err _) e = IsSame d e

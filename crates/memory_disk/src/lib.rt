@@ -3,8 +3,10 @@
 
 mod counts;
 mod entry;
+mod failing;
 mod files;
 mod honest;
+mod in_memory;
 mod listing;
 mod log;
 mod memory;
@@ -12,7 +14,9 @@ mod picks;
 mod sector_map;
 mod store;
 
+pub use failing::{FailingCalls, ListedCalls, NoCalls};
 pub use honest::Honest;
+pub use in_memory::InMemory;
 pub use memory::Memory;
 pub use picks::Pick;
 

@@ -1,5 +1,5 @@
 // How the unsynced sectors of a host are settled when it goes down.
-ghost use Rattle.std.specs.Prelude.{◌≡◌, ◌⊎◌, ◌+◌, true, IfSome, get_or};
+ghost use Rattle.std.specs.Prelude.{◌≡◌, ◌⊎◌, ◌≤◌, true, IfSome, get_or, vec_len};
 ghost use Rattle.shared_disk.specs.Crash.{IsSector};
 
 /// How a sector that a host had not synced is settled when the host goes down.
@@ -18,12 +18,15 @@ pub enum Pick {
 pub(crate) struct Picks {
     picks: Vec<Pick>,
     turn: usize,
+    ghost within: { turn ≤ vec_len picks },
 }
 
 impl Picks {
-    ghost use Rattle.memory_disk.specs.Turns.{turn_in};
+    ghost use Rattle.memory_disk.specs.Turns.{to_come, turned};
 
-    pub(crate) fn new(picks: Vec<Pick>) -> Picks {
+    pub(crate) fn new(picks: Vec<Pick>) -> Picks
+        ensures { to_come result ≡ picks.items }
+    {
         Picks { picks, turn: 0 }
     }
 
@@ -39,20 +42,19 @@ impl Picks {
 
     /// The next one.
     pub(crate) fn next(&mut self) -> Pick
-        ensures pick { result ≡ get_or self.old.picks.items (turn_in self.old.picks.items self.old.turn) Pick.New }
-        ensures turn { self.new.turn ≡ turn_in self.old.picks.items self.old.turn + 1 }
-        ensures picks { self.new.picks ≡ self.old.picks }
+        ensures pick { result ≡ get_or (to_come self.old) 0 Pick.New }
+        ensures turned { to_come self.new ≡ turned 1 (to_come self.old) }
     {
         let at = if self.turn < self.picks.len() {
             self.turn
         } else {
             0
         };
-        self.turn = at + 1;
-        if at < self.picks.len() {
-            return self.picks[at];
+        if at >= self.picks.len() {
+            return Pick::New;
         }
-        Pick::New
+        self.turn = at + 1;
+        self.picks[at]
     }
 }
 

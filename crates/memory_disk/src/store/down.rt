@@ -6,6 +6,7 @@ ghost use Rattle.shared_disk.specs.Crash.{DownLeaves, IsSector};
 ghost use Rattle.memory_disk.specs.Files.{entry_synced};
 ghost use Rattle.memory_disk.specs.Sectors.{sector_at, kept_count, kept_room};
 ghost use Rattle.memory_disk.specs.Settled.{IsFreshSlot, IsSettling};
+ghost use Rattle.memory_disk.specs.Turns.{AreTaken, to_come};
 ghost use Rattle.memory_disk.specs.Store.{IsLogWithin, loose_of, not_by, slot, slot_size};
 
 use super::Store;
@@ -33,6 +34,7 @@ fn settle_first(
     ensures at { IsSettling host files.now.slots.items log.now stable.old stable.new }
     ensures count { kept_count stable.new + length (not_by host (take (i + 1) log.now)) ≤ kept_count stable.old + length (not_by host (take i log.now)) + 1 }
     ensures room { kept_room stable.old ≤ kept_room stable.new }
+    ensures picks { AreTaken (to_come picks.old) (to_come picks.new) }
 {
     let write = &log[i];
     if write.host.get() != host.get() || !write.first {
@@ -61,6 +63,7 @@ fn settle_writes(
     ensures at { IsSettling host files.now.slots.items log.now stable.old stable.new }
     ensures count { kept_count stable.new + length (not_by host log.now) ≤ kept_count stable.old + length log.now }
     ensures room { kept_room stable.old ≤ kept_room stable.new }
+    ensures picks { AreTaken (to_come picks.old) (to_come picks.new) }
 {
     for i in 0..log.len() {
         settle_first(log, i, own, files, stable, host, picks);
@@ -97,6 +100,7 @@ impl Store {
         ensures log { self.new.log ≡ self.old.log }
         ensures room { self.new.room ≡ self.old.room }
         ensures at { IsSettling host self.old.files.slots.items self.old.log.items self.old.stable self.new.stable }
+        ensures picks { AreTaken (to_come picks.old) (to_come picks.new) }
     {
         if self.own.get(host.get(), number, k).is_some() {
             return true;
@@ -116,6 +120,7 @@ impl Store {
         ensures log { self.new.log ≡ self.old.log }
         ensures room { self.new.room ≡ self.old.room }
         ensures at { IsSettling host self.old.files.slots.items self.old.log.items self.old.stable self.new.stable }
+        ensures picks { AreTaken (to_come picks.old) (to_come picks.new) }
     {
         for k in 0..size {
             if !self.fill_picked(host, number, k, picks) {
@@ -131,6 +136,7 @@ impl Store {
         ensures log { self.new.log ≡ self.old.log }
         ensures room { self.new.room ≡ self.old.room }
         ensures at { IsSettling host self.old.files.slots.items self.old.log.items self.old.stable self.new.stable }
+        ensures picks { AreTaken (to_come picks.old) (to_come picks.new) }
     {
         if self.files.is_fresh(number, host) {
             let size = self.files.size(number);
@@ -145,6 +151,7 @@ impl Store {
         ensures log { self.new.log ≡ self.old.log }
         ensures room { self.new.room ≡ self.old.room }
         ensures at { IsSettling host self.old.files.slots.items self.old.log.items self.old.stable self.new.stable }
+        ensures picks { AreTaken (to_come picks.old) (to_come picks.new) }
     {
         if !picks.have_byte() {
             return;
@@ -161,6 +168,7 @@ impl Store {
         ensures log { self.new.log.items ≡ not_by host self.old.log.items }
         ensures room { self.new.room ≡ self.old.room }
         ensures at { IsSettling host self.old.files.slots.items self.old.log.items self.old.stable self.new.stable }
+        ensures picks { AreTaken (to_come picks.old) (to_come picks.new) }
     {
         settle_writes(
             &self.log,
@@ -179,6 +187,7 @@ impl Store {
     pub(crate) fn down(&mut self, host: HostId, picks: &mut Picks)
         ensures call { DownLeaves (held self.old) host (held self.new) }
         ensures room { self.new.room ≡ self.old.room }
+        ensures picks { AreTaken (to_come picks.old) (to_come picks.new) }
     {
         self.fill_files(host, picks);
         self.settle_host(host, picks);

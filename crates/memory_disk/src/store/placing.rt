@@ -2,12 +2,12 @@
 ghost use Rattle.std.specs.Prelude.{◌≡◌, ◌≢◌, ℕ, ◌+◌, ◌-◌, ◌*◌, ◌/◌, ◌%◌, ◌^◌, ◌<◌, ◌≤◌, ◌==◌, ◌&&◌, true, [], Some, None, OnOk, OnErr, get_or, length, drop, unwrap_or, vec_capacity, if◌then◌else◌};
 ghost use Rattle.shared_disk.specs.Calls.{IsAligned, IsDirPut, IsPut};
 ghost use Rattle.shared_disk.specs.Content.{sector_of, zero_sector};
-ghost use Rattle.memory_disk.specs.Placed.{Places, Tells};
+ghost use Rattle.memory_disk.specs.Placed.{IsPathMade, Places, Tells};
 ghost use Rattle.memory_disk.specs.Sectors.{sector_at, kept_count, kept_room};
 ghost use Rattle.memory_disk.specs.declared.entry.FileEntry.{FileEntry};
 ghost use Rattle.memory_disk.specs.Store.{found, has_dir, loose_of, slot, slot_size};
 
-use super::{Store, is_dir, sector};
+use super::{Store, is_dir, parent, sector};
 use crate::entry::{FileEntry, Write};
 use crate::files::Files;
 use crate::sector_map::{MEDIUM, Sectors};
@@ -103,6 +103,21 @@ impl Store {
         }
     }
 
+    // Makes a folder and those above it, where they aren't there.
+    fn add_dirs(&mut self, dir: Dir)
+        requires { units self.old + 3 ≤ self.old.room }
+        ensures made { IsPathMade (held self.old) dir (held self.new) }
+        ensures others { (q : Place) → (held self.new).file q ≡ (held self.old).file q }
+        ensures files { self.new.files ≡ self.old.files }
+        ensures units { units self.new ≤ units self.old + 3 }
+        ensures room { self.new.room ≡ self.old.room }
+        ensures folder { has_dir self.new.dirs.items dir ≡ true }
+    {
+        self.add_dir(parent(parent(dir)));
+        self.add_dir(parent(dir));
+        self.add_dir(dir);
+    }
+
     // Makes a file of zeros, with nothing unsynced, and answers its number.
     fn add_file(&mut self, place: Place, size: u64) -> usize
         requires folder { has_dir self.old.dirs.items place.dir ≡ true }
@@ -163,9 +178,9 @@ impl Store {
         let sectors = bytes.len() / 512;
         let room = self.room;
         let used = self.used();
-        self.add_room(sectors + 2)?;
+        self.add_room(sectors + 4)?;
         self.clear_place(place);
-        self.add_dir(place.dir);
+        self.add_dirs(place.dir);
         let number = self.add_file(place, sectors as u64);
         self.put_sectors(number, bytes);
         let more = self.used().saturating_sub(used);
