@@ -324,7 +324,12 @@ fn ends_of_texts(rt: HostRuntime) -> Result<(), AllocError> {
     assert_eq!(rt; fault_of(rt.alloc(), &text).0, "");
     let cases = [
         (7871, "67c24cb5225c45781acdd8b8b27141398a3f3c1d", 8192, ""),
-        (7872, "695faee93ab35b2e6a50fd3598f4f9817119294e", 8193, "TooLong"),
+        (
+            7872,
+            "695faee93ab35b2e6a50fd3598f4f9817119294e",
+            8193,
+            "TooLong",
+        ),
     ];
     for (count, digest, len, want) in cases {
         let mut pad = String::new(rt.alloc());
