@@ -3,6 +3,4 @@
 
 mod layer;
 
-pub use layer::{
-    named_clusters_are_used, one_first_fault, one_wanted_length, sound_without_fault,
-};
+pub use layer::{named_clusters_are_used, one_first_fault, one_wanted_length, sound_without_fault};

@@ -35,9 +35,7 @@ pub(crate) fn step_stage<D: SharedDisk>(
         }
         Stage::Blocks(work, k) => step_blocks(target, host, disk, work, k),
         Stage::L1(work, i) => step_l1(target, host, disk, work, i),
-        Stage::L2(work, i, table, j, row) => {
-            step_l2(target, host, disk, work, i, table, j, row)
-        }
+        Stage::L2(work, i, table, j, row) => { step_l2(target, host, disk, work, i, table, j, row) }
         Stage::Taken(work, place, block) => step_taken(target, host, disk, work, place, block),
     }
 }

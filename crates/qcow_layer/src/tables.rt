@@ -102,12 +102,7 @@ pub(crate) fn check_entries(
 }
 
 // L1 entry i: the L2 table that it names, or None, or its fault.
-fn admit_l1(
-    header: &Header,
-    marks: &mut Marks,
-    i: u64,
-    bits: u64,
-) -> Result<Option<u64>, Objection>
+fn admit_l1(header: &Header, marks: &mut Marks, i: u64, bits: u64) -> Result<Option<u64>, Objection>
     requires bits { header.now.cluster_bits ≤ 21 }
     requires few { i < 2 ^ 32 }
     ensures { PassesL1 header.now i bits marks.old marks.new result }

@@ -44,12 +44,7 @@ pub(crate) fn step_blocks<D: SharedDisk>(
 }
 
 // The L1 entries from i on that stand in this sector, up to the first that names an L2 table. No call of the disk.
-fn pass_row(
-    target: Target,
-    work: Work,
-    i: u32,
-    sector: [u8; 512],
-) -> Turn<Stage, Work, ()>
+fn pass_row(target: Target, work: Work, i: u32, sector: [u8; 512]) -> Turn<Stage, Work, ()>
     requires inside { i < work.header.l1_size }
     ensures cause { (before after : ℕ) → EndsOnlyBy (IsRisen before after) result }
     ensures refusals { EndsOnlyBy (IsOpeningRefusal false) result }

@@ -3,8 +3,8 @@ use super::{
     FILE, GIB, NAME, Outcome, VOLUME, alone, disk_with, lay, lay_number, open_layer, over_raw, told,
 };
 use memory_disk::Memory;
-use qcow_layer::Opening;
 use qcow_format::{Header, MAGIC};
+use qcow_layer::Opening;
 use sd_names::{Format, HostId, Id, Turn};
 use std::alloc::Global;
 use std::test::Fail;
