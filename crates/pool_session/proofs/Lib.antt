@@ -4,8 +4,6 @@ pub mod ImageLemmas
 pub mod WriteLemmas
 pub mod TurnLemmas
 pub mod CommandLemmas
-pub mod StreamLemmas
 pub mod MachineLemmas
 pub mod LineLemmas
-pub mod RunLemmas
-pub mod EndLemmas
+pub mod SessionLemmas

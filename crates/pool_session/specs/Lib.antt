@@ -4,15 +4,10 @@ pub mod Command
 pub mod Fault
 pub mod Folders
 pub mod Image
-pub mod Line
-pub mod Lines
 pub mod Machine
-pub mod Memory
 pub mod Program
 pub mod Reply
 pub mod Run
-pub mod Script
+pub mod RunsAt
 pub mod Session
-pub mod Status
-pub mod Stream
 pub mod Words

@@ -1,21 +1,24 @@
 -- What the words ask for, and how a session stands before its first line.
-use Rattle.std.specs.Prelude.{◌≡◌, ℕ, false, List, Option, Some}
+use Rattle.std.specs.Prelude.{◌≡◌, ℕ, false, List, [], Option, Some}
 use Rattle.shared_disk.specs.Content.{zero_sector}
 use Rattle.command_words.specs.Asked.{Asked, run}
-use Rattle.pool_session.specs.Machine.{State}
-use Rattle.pool_session.specs.Script.{script_of}
+use Rattle.script_loop.specs.declared.status.Status.{Status}
+use Rattle.script_loop.specs.declared.status.Status.TheVariants as status
+use Rattle.pool_session.specs.Run.{Flat}
+use Rattle.script_loop.specs.Script.{script_of}
 use Rattle.pool_session.specs.declared.stage.Stage.TheVariants.{Off}
 
--- the script of a command: the lines that a run was given, and else what the source gives
-abbrev pub script_at : Option Asked → Option (List ℕ) → Option (List ℕ)
-script_at (Some (run moment lines)) left = Some (script_of lines)
-script_at _ left = left
+-- what a source tells before a run and behind it: that which gives the script, and is another than the caller's for `run`
+abbrev pub Gives : Option Asked → Option (List ℕ) → Option (List ℕ) → Option (List ℕ) → Option (List ℕ) → Type 0
+Gives (Some (run moment lines)) before after left left' = left ≡ Some (script_of lines)
+Gives _ before after left left' = (left ≡ before) × (left' ≡ after)
 
--- what is left of the script: it stands in the source, where that gives the script
-abbrev pub IsLeft : Option Asked → Option (List ℕ) → List ℕ → Type 0
-IsLeft (Some (run moment lines)) now left = Unit {0}
-IsLeft _ now left = now ≡ Some left
+-- the host is off, all sectors are zeros, and there was no reply
+abbrev pub start : ℕ → Flat
+start faults = record { state = record { stage = Off; flat = λ n. zero_sector; faults = faults; refusals = false }; reply = [] }
 
--- the host is off, all sectors are zeros, and no reply was a refusal
-abbrev pub start : ℕ → State
-start faults = record { stage = Off; flat = λ n. zero_sector; faults = faults; refusals = false }
+-- something holds where a script was run
+abbrev pub IfRan : Status → Type 0 → Type 0
+IfRan status.Words P = Unit {0}
+IfRan status.Memory P = Unit {0}
+IfRan _ P = P

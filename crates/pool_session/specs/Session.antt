@@ -1,16 +1,16 @@
--- The state that a session stands for.
-use Rattle.std.specs.Prelude.{◌≡◌, ℕ, List, Option, Some}
+-- What a session says of a line.
+use Rattle.std.specs.Prelude.{ℕ, List, Option}
+use Rattle.script_loop.specs.declared.runner.LineOutcome.{LineOutcome}
 use Rattle.shared_disk.specs.Content.{Content}
-use Rattle.pool_session.specs.Machine.{State, Stands}
+use Rattle.pool_session.specs.Run.{IsOutcome}
+use Rattle.pool_session.specs.RunsAt.{RunsAt}
 use Rattle.pool_session.specs.declared.session.Session.{Session}
-use Rattle.pool_session.specs.declared.stage.Stage.{Stage}
 
--- the machine's state, with these sectors, at the disk's count of faults
-abbrev pub state_of : Session → (ℕ → List ℕ) → ℕ → State
-state_of session flat faults = record { stage = session.machine.stage; flat = flat; faults = faults; refusals = session.refusals }
+-- the reply that a session keeps
+abbrev pub kept_reply : Session → List ℕ
+kept_reply session = session.reply.items
 
--- the disk tells what it holds, and that is what the stage has, with these sectors
-pub record Reached (stage : Stage) (content : Option Content) (flat : ℕ → List ℕ) : Type 0 where
-  pub disk : Content
-  pub tells : content ≡ Some disk
-  pub stands : Stands stage flat disk
+-- what a line may come to
+abbrev pub SessionSays : {D : Type 0} → (D → Option Content) → (D → ℕ) → Session → D → ℕ → List ℕ → LineOutcome → Session → D → Type 0
+SessionSays content faults before d number line outcome after e =
+    IsOutcome line outcome × RunsAt before.machine.stage after.machine.stage (content d) (content e) (faults d) (faults e) number line outcome (kept_reply after)

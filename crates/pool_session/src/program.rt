@@ -1,32 +1,27 @@
 // The program's one public call.
-ghost use Rattle.std.specs.Prelude.{◌≡◌, ◌≢◌, ◌⊎◌, ℕ, List, Option, map, Some, None, length, IfOk};
-ghost use Rattle.shared_disk.specs.Calls.{Rose};
+ghost use Rattle.std.specs.Prelude.{◌≡◌, ◌≢◌, ◌⊎◌, ℕ, List, [], Option, map, Some, None};
 ghost use Rattle.shared_disk.specs.Content.{Content, IsEmpty};
-ghost use Rattle.command_words.specs.Asked.{asked_by, run};
+ghost use Rattle.command_words.specs.Asked.{Asked, asked_by, run, session};
 ghost use Rattle.command_words.specs.Words.{asked};
-ghost use Rattle.pool_session.specs.Program.{script_at, IsLeft, start};
-ghost use Rattle.pool_session.specs.Script.{script_of};
-ghost use Rattle.pool_session.specs.Machine.{State, Stands};
-ghost use Rattle.pool_session.specs.Run.{Ends, TakesAtMost};
+ghost use Rattle.script_loop.specs.Ends.{Ends, SourceFaults, SinkFaults};
+ghost use Rattle.script_loop.specs.Script.{script_of};
+ghost use Rattle.pool_session.specs.Program.{Gives, IfRan, start};
+ghost use Rattle.pool_session.specs.Machine.{Stands};
+ghost use Rattle.pool_session.specs.Run.{Flat, FlatSays, flat_reply, SomeSays, some_reply};
 
-use crate::script::Script;
 use crate::session::Session;
-use crate::{Sink, Source, Status};
 use command_words::{Command, read_words};
+use script_loop::{Room, Script, Sink, Source, Status, run_script};
 use sd_names::NoMemory;
 use shared_disk::SharedDisk;
 use std::alloc::Global;
-
-/// The bytes of a piece of the script, and of the room for a part of an image.
-const PIECE: usize = 65_536;
 
 /// Runs what the words after the program's name ask for, over the disk, with a reply a line to the sink: for `session` the
 /// script that the source gives, and for `run` the script made of the lines that follow, each with an LF behind it. `run`
 /// leaves the source as it is.
 ///
-/// The script's lines end at LF, and the last one may lack it. Each line is run as soon as it is complete, and its reply is
-/// given before more of the script is read. At most 67,108,865 bytes are taken, and lines of at most 67,108,864 are run. Where
-/// the disk tells that it is empty at first, the replies are those of a flat machine (`ends`).
+/// The script is run as [`run_script`] says: line by line as it comes, each reply before more is read, up to 67,108,864 bytes.
+/// Where the disk tells that it is empty at first, the replies are those of a flat machine (`ends`).
 ///
 /// `moment` is the time in seconds since 1970, where the words give none; no line needs it yet. The memory that a session
 /// needs is taken from `alloc` before the first line.
@@ -45,16 +40,15 @@ pub fn vdsm<'a, S: Source, K: Sink, D: SharedDisk>(
     ensures others { asked (map (λ word. word.now) words.now) ≡ None → (result ≡ Status.Words) ⊎ (result ≡ Status.Memory) }
     ensures untouched { (result ≡ Status.Words) ⊎ (result ≡ Status.Memory) → (source.new ≡ source.old) × (sink.new ≡ sink.old) × (disk.new ≡ disk.old) }
     ensures unread { (seconds : Option ℕ) (lines : List (List ℕ)) → asked (map (λ word. word.now) words.now) ≡ Some (run seconds lines) → source.new ≡ source.old }
-    ensures read_fault { result ≡ Status.ReadFault → Rose (S.faults source.old) (S.faults source.new) }
-    ensures write_fault { result ≡ Status.WriteFault → Rose (K.faults sink.old) (K.faults sink.new) }
-    ensures bounded { (input : List ℕ) → S.left source.old ≡ Some input → TakesAtMost input (S.left source.new) }
-    ensures ends { (input before : List ℕ) (d : Content) → script_at (asked (map (λ word. word.now) words.now)) (S.left source.old) ≡ Some input
-        → K.given sink.old ≡ Some before → D.content disk.old ≡ Some d → IsEmpty d
-        → (left : List ℕ) × (after : List ℕ) × (e : Content) × (t : State)
-        × IsLeft (asked (map (λ word. word.now) words.now)) (S.left source.new) left
-        × (K.given sink.new ≡ Some after) × (D.content disk.new ≡ Some e)
-        × Stands t.stage t.flat e × (t.faults ≡ D.faults disk.new)
-        × Ends result (start (D.faults disk.old)) input left before after t }
+    ensures source_faults { SourceFaults result (S.faults source.old) (S.faults source.new) }
+    ensures sink_faults { SinkFaults result (K.faults sink.old) (K.faults sink.new) }
+    ensures runs { IfRan result ((left : Option (List ℕ)) × (left' : Option (List ℕ)) × (refused : ℕ) × (reply : List ℕ)
+        × Gives (asked (map (λ word. word.now) words.now)) (S.left source.old) (S.left source.new) left left'
+        × Ends SomeSays some_reply result refused [] tt left left' (K.given sink.old) (K.given sink.new) reply tt) }
+    ensures ends { (d : Content) → D.content disk.old ≡ Some d → IsEmpty d → IfRan result ((left : Option (List ℕ)) × (left' : Option (List ℕ)) × (refused : ℕ) × (e : Content) × (t : Flat)
+        × Gives (asked (map (λ word. word.now) words.now)) (S.left source.old) (S.left source.new) left left'
+        × (D.content disk.new ≡ Some e) × Stands t.state.stage t.state.flat e × (t.state.faults ≡ D.faults disk.new)
+        × Ends FlatSays flat_reply result refused (start (D.faults disk.old)) tt left left' (K.given sink.old) (K.given sink.new) t tt) }
 {
     match read_words(alloc, words) {
         Ok(Some(command)) => {
@@ -77,16 +71,15 @@ fn run_command<S: Source, K: Sink, D: SharedDisk>(
     ensures others { result ≢ Status.Words }
     ensures untouched { result ≡ Status.Memory → (source.new ≡ source.old) × (sink.new ≡ sink.old) × (disk.new ≡ disk.old) }
     ensures unread { (seconds : Option ℕ) (lines : List (List ℕ)) → asked_by command.now ≡ run seconds lines → source.new ≡ source.old }
-    ensures read_fault { result ≡ Status.ReadFault → Rose (S.faults source.old) (S.faults source.new) }
-    ensures write_fault { result ≡ Status.WriteFault → Rose (K.faults sink.old) (K.faults sink.new) }
-    ensures bounded { (input : List ℕ) → S.left source.old ≡ Some input → TakesAtMost input (S.left source.new) }
-    ensures ends { (input before : List ℕ) (d : Content) → script_at (Some (asked_by command.now)) (S.left source.old) ≡ Some input
-        → K.given sink.old ≡ Some before → D.content disk.old ≡ Some d → IsEmpty d
-        → (left : List ℕ) × (after : List ℕ) × (e : Content) × (t : State)
-        × IsLeft (Some (asked_by command.now)) (S.left source.new) left
-        × (K.given sink.new ≡ Some after) × (D.content disk.new ≡ Some e)
-        × Stands t.stage t.flat e × (t.faults ≡ D.faults disk.new)
-        × Ends result (start (D.faults disk.old)) input left before after t }
+    ensures source_faults { SourceFaults result (S.faults source.old) (S.faults source.new) }
+    ensures sink_faults { SinkFaults result (K.faults sink.old) (K.faults sink.new) }
+    ensures runs { IfRan result ((left : Option (List ℕ)) × (left' : Option (List ℕ)) × (refused : ℕ) × (reply : List ℕ)
+        × Gives (Some (asked_by command.now)) (S.left source.old) (S.left source.new) left left'
+        × Ends SomeSays some_reply result refused [] tt left left' (K.given sink.old) (K.given sink.new) reply tt) }
+    ensures ends { (d : Content) → D.content disk.old ≡ Some d → IsEmpty d → IfRan result ((left : Option (List ℕ)) × (left' : Option (List ℕ)) × (refused : ℕ) × (e : Content) × (t : Flat)
+        × Gives (Some (asked_by command.now)) (S.left source.old) (S.left source.new) left left'
+        × (D.content disk.new ≡ Some e) × Stands t.state.stage t.state.flat e × (t.state.faults ≡ D.faults disk.new)
+        × Ends FlatSays flat_reply result refused (start (D.faults disk.old)) tt left left' (K.given sink.old) (K.given sink.new) t tt) }
 {
     match command {
         Command::Session { moment: _ } => run_session(alloc, source, sink, disk),
@@ -103,12 +96,14 @@ fn run_lines<K: Sink, D: SharedDisk>(
 ) -> Status
     ensures others { (result ≢ Status.Words) × (result ≢ Status.ReadFault) }
     ensures untouched { result ≡ Status.Memory → (sink.new ≡ sink.old) × (disk.new ≡ disk.old) }
-    ensures write_fault { result ≡ Status.WriteFault → Rose (K.faults sink.old) (K.faults sink.new) }
-    ensures ends { (before : List ℕ) (d : Content) → K.given sink.old ≡ Some before → D.content disk.old ≡ Some d → IsEmpty d
-        → (left : List ℕ) × (after : List ℕ) × (e : Content) × (t : State)
-        × (K.given sink.new ≡ Some after) × (D.content disk.new ≡ Some e)
-        × Stands t.stage t.flat e × (t.faults ≡ D.faults disk.new)
-        × Ends result (start (D.faults disk.old)) (script_of (map (λ line. line.now) lines.now)) left before after t }
+    ensures sink_faults { SinkFaults result (K.faults sink.old) (K.faults sink.new) }
+    ensures runs { IfRan result ((left : Option (List ℕ)) × (left' : Option (List ℕ)) × (refused : ℕ) × (reply : List ℕ)
+        × (left ≡ Some (script_of (map (λ line. line.now) lines.now)))
+        × Ends SomeSays some_reply result refused [] tt left left' (K.given sink.old) (K.given sink.new) reply tt) }
+    ensures ends { (d : Content) → D.content disk.old ≡ Some d → IsEmpty d → IfRan result ((left : Option (List ℕ)) × (left' : Option (List ℕ)) × (refused : ℕ) × (e : Content) × (t : Flat)
+        × (left ≡ Some (script_of (map (λ line. line.now) lines.now)))
+        × (D.content disk.new ≡ Some e) × Stands t.state.stage t.state.flat e × (t.state.faults ≡ D.faults disk.new)
+        × Ends FlatSays flat_reply result refused (start (D.faults disk.old)) tt left left' (K.given sink.old) (K.given sink.new) t tt) }
 {
     match Script::of_lines(alloc, lines) {
         Ok(mut script) => run_session(alloc, &mut script, sink, disk),
@@ -125,29 +120,19 @@ fn run_session<S: Source, K: Sink, D: SharedDisk>(
 ) -> Status
     ensures others { result ≢ Status.Words }
     ensures untouched { result ≡ Status.Memory → (source.new ≡ source.old) × (sink.new ≡ sink.old) × (disk.new ≡ disk.old) }
-    ensures read_fault { result ≡ Status.ReadFault → Rose (S.faults source.old) (S.faults source.new) }
-    ensures write_fault { result ≡ Status.WriteFault → Rose (K.faults sink.old) (K.faults sink.new) }
-    ensures bounded { (input : List ℕ) → S.left source.old ≡ Some input → TakesAtMost input (S.left source.new) }
-    ensures ends { (input before : List ℕ) (d : Content) → S.left source.old ≡ Some input → K.given sink.old ≡ Some before → D.content disk.old ≡ Some d → IsEmpty d
-        → (left : List ℕ) × (after : List ℕ) × (e : Content) × (t : State)
-        × (S.left source.new ≡ Some left) × (K.given sink.new ≡ Some after) × (D.content disk.new ≡ Some e)
-        × Stands t.stage t.flat e × (t.faults ≡ D.faults disk.new)
-        × Ends result (start (D.faults disk.old)) input left before after t }
+    ensures source_faults { SourceFaults result (S.faults source.old) (S.faults source.new) }
+    ensures sink_faults { SinkFaults result (K.faults sink.old) (K.faults sink.new) }
+    ensures runs { IfRan result ((refused : ℕ) × (reply : List ℕ)
+        × Ends SomeSays some_reply result refused [] tt (S.left source.old) (S.left source.new) (K.given sink.old) (K.given sink.new) reply tt) }
+    ensures ends { (d : Content) → D.content disk.old ≡ Some d → IsEmpty d → IfRan result ((refused : ℕ) × (e : Content) × (t : Flat)
+        × (D.content disk.new ≡ Some e) × Stands t.state.stage t.state.flat e × (t.state.faults ≡ D.faults disk.new)
+        × Ends FlatSays flat_reply result refused (start (D.faults disk.old)) tt (S.left source.old) (S.left source.new) (K.given sink.old) (K.given sink.new) t tt) }
 {
-    match (Session::new(alloc), zeros(alloc), zeros(alloc)) {
-        (Ok(mut session), Ok(mut piece), Ok(mut room)) => session.run(
-            source, &mut piece, &mut room, disk, sink,
-        ),
+    match (Session::new(alloc), Room::new(alloc)) {
+        (Ok(mut session), Ok(room)) => {
+            let ended = run_script(room, &mut session, disk, source, sink);
+            ended.status
+        }
         _ => Status::Memory,
-    }
-}
-
-// Room for a piece.
-fn zeros(alloc: Global) -> Result<Vec<u8>, NoMemory>
-    ensures { IfOk result (λ room. length room.items ≡ 65536) }
-{
-    match Vec::from_elem(alloc, 0, PIECE) {
-        Ok(room) => Ok(room),
-        Err(_) => Err(NoMemory),
     }
 }

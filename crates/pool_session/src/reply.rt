@@ -4,6 +4,7 @@ ghost use Rattle.sd_names.specs.Id.{id_text};
 ghost use Rattle.pool_session.specs.Answer.{body_of, done};
 
 use script_lines::push_data;
+use script_loop::LineOutcome;
 use sd_names::{Id, Refusal, push_all, push_id, push_number, push_refusal};
 
 /// The reply to a line that isn't silent.
@@ -25,14 +26,22 @@ pub enum Reply {
 pub const REPLY_ROOM: usize = 200_000;
 
 impl Reply {
-    ghost use Rattle.pool_session.specs.Answer.{reply_text, body_of, is_refusal};
+    ghost use Rattle.std.specs.Prelude.{◌⊎◌};
+    ghost use Rattle.pool_session.specs.Answer.{reply_text, body_of};
+    ghost use Rattle.pool_session.specs.Run.{outcome_for};
     ghost use Rattle.pool_session.specs.Reply.{answer_of, IsPrintable};
 
-    /// Whether it is a refusal.
-    pub fn is_refusal(&self) -> bool
-        ensures { (room : List ℕ) → result ≡ is_refusal (answer_of self.now room) }
+    /// What the reply makes of its line.
+    pub fn outcome(&self) -> LineOutcome
+        ensures outcome { (room : List ℕ) → result ≡ outcome_for (answer_of self.now room) }
+        ensures loud { (result ≡ LineOutcome.Done) ⊎ (result ≡ LineOutcome.Refused) }
     {
-        matches!(self, Reply::Refused(_))
+        match self {
+            Reply::Refused(_) => LineOutcome::Refused,
+            Reply::Plain | Reply::Version(_) | Reply::Opened(_, _) | Reply::Bytes(_) => {
+                LineOutcome::Done
+            }
+        }
     }
 
     /// Pushes the text of the reply to the line of a number, from 1, into empty room that was reserved. The bytes that were

@@ -1,9 +1,10 @@
 // What no clause says: whole scripts over a disk in memory, with a disk, a source and a sink that fail.
 ghost use Rattle.std.specs.Prelude.{None};
-ghost use Rattle.pool_session.specs.Memory.{sink_faults};
+ghost use Rattle.script_loop.specs.Memory.{sink_faults};
 
 use memory_disk::Memory;
-use pool_session::{MemorySink, MemorySource, Sink, Status, vdsm};
+use pool_session::vdsm;
+use script_loop::{MemorySink, MemorySource, Sink, Status};
 use sd_names::{Dir, Failed, HostId, Id, Name, Place};
 use shared_disk::SharedDisk;
 use std::alloc::Global;

@@ -1,10 +1,10 @@
 // The script and the replies over standard input and output, or any other reader and writer.
 ghost use Rattle.std.specs.Prelude.{◌≡◌, ◌<◌, ◌≤◌, List, ℕ, length, Some, IfSome};
-ghost use Rattle.pool_session.specs.Stream.{Counts};
+ghost use Rattle.script_loop.specs.Stream.{Counts};
 ghost use Rattle.vdsm_cli.specs.Counts.{source_faults, sink_faults};
 ghost use Rattle.vdsm_cli.specs.Streams.{source_input, sink_output, sink_unflushed, sink_given, Takes};
 
-use pool_session::{Sink, Source};
+use script_loop::{Sink, Source};
 use sd_names::Failed;
 use std::io::{Read, Write};
 

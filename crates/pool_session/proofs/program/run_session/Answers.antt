@@ -1,37 +1,46 @@
-use Rattle.std.proofs.Common.{◌≡◌, ℕ, Bool, false, refl, sym, ap, ◌∙◌, subst}
+use Rattle.std.proofs.Common.{◌≡◌, ℕ, List, [], false, sym, ap, subst}
+use Rattle.script_loop.specs.Ends.{Ends}
+use Rattle.script_loop.specs.declared.status.Status.{Status}
 use Rattle.shared_disk.specs.Content.{zero_sector}
+use Rattle.pool_session.specs.Machine.{Stands}
 use Rattle.pool_session.specs.Program.{start}
-use Rattle.pool_session.specs.Machine.{State, Stands}
-use Rattle.pool_session.specs.Run.{Ends}
-use Rattle.pool_session.specs.Session.{state_of, Reached}
-use Rattle.pool_session.specs.declared.session.Session.{Session}
+use Rattle.pool_session.specs.RunsAt.{Reached, state_at}
+use Rattle.pool_session.specs.Session.{SessionSays, kept_reply}
 use Rattle.pool_session.specs.declared.stage.Stage.{Stage}
-use Rattle.pool_session.specs.declared.stage.Stage.TheVariants.{Off}
+use Rattle.pool_session.proofs.SessionLemmas.{never_short, some_ends, flat_ends, if_ran}
 use Rattle.pool_session.proofs.program.run_session.Goals as goal
 
--- how a session stands before its first line
-starts : (session : Session) (faults : ℕ) → session.machine.stage ≡ Off → session.refusals ≡ false → state_of session (λ n. zero_sector) faults ≡ start faults
-starts session faults off none =
-    ap {B = State} (λ (stage : Stage). record { stage = stage; flat = λ n. zero_sector; faults = faults; refusals = session.refusals }) off
-    ∙ ap {B = State} (λ (refusals : Bool). record { stage = Off; flat = λ n. zero_sector; faults = faults; refusals = refusals }) none
+pub returns-in-Ok-Ok-clause-untouched : goal.returns-in-Ok-Ok-clause-untouched
+returns-in-Ok-Ok-clause-untouched g c is =
+    let content = g.D.SharedDisk.content in
+    let faults = g.D.SharedDisk.faults in
+    let left = g.S.Source.left in
+    let given = g.K.Sink.given in
+    let ended = c.run_script-ended in
+    let session = c.in-Ok-Ok.session in
+    absurd (never_short content faults ended.result.refused session ended.new.runner c.args.disk.now ended.new.disk (left c.args.source.now) (left ended.new.source) (given c.args.sink.now) (given ended.new.sink)
+    (subst (λ (status : Status). Ends (SessionSays content faults) kept_reply status ended.result.refused session c.args.disk.now (left c.args.source.now) (left ended.new.source) (given c.args.sink.now) (given ended.new.sink) ended.new.runner ended.new.disk) is ended.ensures.ends))
 
-pub returns-in-Ok-Ok-Ok-clause-untouched : goal.returns-in-Ok-Ok-Ok-clause-untouched
-returns-in-Ok-Ok-Ok-clause-untouched g c is = absurd (c.run.ensures.others.1 is)
+pub returns-in-Ok-Ok-clause-runs : goal.returns-in-Ok-Ok-clause-runs
+returns-in-Ok-Ok-clause-runs g c =
+    let left = g.S.Source.left in
+    let given = g.K.Sink.given in
+    let ended = c.run_script-ended in
+    let ran = some_ends g.D.SharedDisk.content g.D.SharedDisk.faults ended.result.status ended.result.refused c.in-Ok-Ok.session ended.new.runner c.args.disk.now ended.new.disk (left c.args.source.now) (left ended.new.source) (given c.args.sink.now) (given ended.new.sink)
+    ended.ensures.ends [] c.in-Ok-Ok.ensures.reply in
+    if_ran ended.result.status _ (ended.result.refused, ran.0, ran.1)
 
-pub returns-in-Ok-Ok-Ok-clause-ends : goal.returns-in-Ok-Ok-Ok-clause-ends
-returns-in-Ok-Ok-Ok-clause-ends g c input before d tells given content empty =
-    let session = c.in-Ok-Ok-Ok.session in
-    let reached : Reached session.machine.stage (g.D.SharedDisk.content c.args.disk.now) (λ n. zero_sector) = record { disk = d; tells = content; stands = subst (λ (stage : Stage). Stands stage (λ n. zero_sector) d) (sym c.in-Ok-Ok-Ok.ensures.stage) empty } in
-    let ran = c.run.ensures.ends (λ n. zero_sector) input before tells given reached c.in-Ok-Ok-Ok.ensures.line in
-    let t = state_of c.run.new.self ran.0 (g.D.SharedDisk.faults c.run.new.disk) in (
-      ran.1,
-      ran.2,
-      ran.3.disk,
-      t,
-      ran.4,
-      ran.5,
-      ran.3.tells,
-      ran.3.stands,
-      refl,
-      subst (λ (s : State). Ends c.run.result s input ran.1 before ran.2 t) (starts session (g.D.SharedDisk.faults c.args.disk.now) c.in-Ok-Ok-Ok.ensures.stage c.in-Ok-Ok-Ok.ensures.refusals) ran.6,
-    )
+pub returns-in-Ok-Ok-clause-ends : goal.returns-in-Ok-Ok-clause-ends
+returns-in-Ok-Ok-clause-ends g c d tells empty =
+    let content = g.D.SharedDisk.content in
+    let faults = g.D.SharedDisk.faults in
+    let left = g.S.Source.left in
+    let given = g.K.Sink.given in
+    let ended = c.run_script-ended in
+    let session = c.in-Ok-Ok.session in
+    let off = sym c.in-Ok-Ok.ensures.stage in
+    let reached : Reached session.machine.stage (content c.args.disk.now) (λ n. zero_sector) = record { disk = d; tells = tells; stands = subst (λ (stage : Stage). Stands stage (λ n. zero_sector) d) off empty } in
+    let ran = flat_ends content faults ended.result.status ended.result.refused session ended.new.runner c.args.disk.now ended.new.disk (left c.args.source.now) (left ended.new.source) (given c.args.sink.now) (given ended.new.sink)
+    ended.ensures.ends (start (faults c.args.disk.now)) (λ n. zero_sector) false reached
+    (ap (λ (stage : Stage). state_at stage (λ n. zero_sector) (faults c.args.disk.now) false) off) c.in-Ok-Ok.ensures.reply in
+    if_ran ended.result.status _ (ended.result.refused, ran.0, ran.1, ran.2, ran.3, ran.4, ran.5)
