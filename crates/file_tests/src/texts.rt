@@ -72,6 +72,9 @@ fn a_text_is_replaced_and_read(rt: HostRuntime) -> Result<(), Fail> {
             Ok(Text::Absent)
         )
     );
+    // What an earlier attempt left.
+    disk.create(host, VOLATILE, 1024)?;
+    disk.write_at(host, VOLATILE, 0, &[7; 1024])?;
     let longest = [b'x'; LONGEST];
     for (text, steps) in [(OLD, 5), (NEW, 5), (&[][..], 4), (&longest[..], 5)] {
         assert!(rt;
@@ -82,18 +85,6 @@ fn a_text_is_replaced_and_read(rt: HostRuntime) -> Result<(), Fail> {
         assert!(rt; reads(&mut disk, host, text), "{} bytes", text.len());
         assert!(rt; disk.length(host, VOLATILE) == Err(DiskAnswer::NoFile));
     }
-    Ok(())
-}
-
-#[test]
-fn a_leftover_file_is_removed_first(rt: HostRuntime) -> Result<(), Fail> {
-    let host = HostId::new(1).ok_or("no host")?;
-    let mut disk = Memory::new(rt.alloc(), Vec::new(rt.alloc()), Vec::new(rt.alloc()), 100)?;
-    make_folders(&mut disk, host)?;
-    disk.create(host, VOLATILE, 1024)?;
-    disk.write_at(host, VOLATILE, 0, &[7; 1024])?;
-    assert!(rt; replace(&mut disk, host, OLD) == End::Done(5));
-    assert!(rt; reads(&mut disk, host, OLD));
     Ok(())
 }
 
@@ -126,44 +117,29 @@ fn the_target_is_old_or_new_at_each_crash(rt: HostRuntime) -> Result<(), Fail> {
     let host = HostId::new(1).ok_or("no host")?;
     let other = HostId::new(2).ok_or("no host")?;
     for pick in [Pick::Old, Pick::New, Pick::Byte(0x55)] {
-        // Two calls make the folders, five the old text, and each of the next five fails in its turn.
-        for failing in 0..5 {
+        // Two calls make the folders, five the old text, and each of the next five fails in its turn; at last none.
+        for failing in 0..6 {
             let mut picks = Vec::new(rt.alloc());
             picks.push(pick)?;
             let mut list = Vec::new(rt.alloc());
-            list.push(7 + failing)?;
+            let (end, left) = if failing < 5 {
+                list.push(7 + failing)?;
+                (End::Refused(failing as u8 + 1, 120), OLD)
+            } else {
+                (End::Done(5), NEW)
+            };
             let mut disk = Memory::new(rt.alloc(), picks, list, 100)?;
             make_folders(&mut disk, host)?;
             assert!(rt; replace(&mut disk, host, OLD) == End::Done(5));
-            let step = failing as u8 + 1;
-            assert!(rt;
-                replace(&mut disk, host, NEW) == End::Refused(step, 120),
-                "call {failing}"
-            );
+            assert!(rt; replace(&mut disk, host, NEW) == end, "call {failing}");
             disk.down(host);
-            assert!(rt; reads(&mut disk, other, OLD), "{pick:?} at call {failing}");
+            assert!(rt; reads(&mut disk, other, left), "{pick:?} at call {failing}");
             assert!(rt;
                 replace(&mut disk, other, NEW) == End::Done(5),
                 "again after {failing}"
             );
             assert!(rt; reads(&mut disk, other, NEW));
         }
-    }
-    Ok(())
-}
-
-#[test]
-fn what_was_done_survives_the_host(rt: HostRuntime) -> Result<(), Fail> {
-    let host = HostId::new(1).ok_or("no host")?;
-    let other = HostId::new(2).ok_or("no host")?;
-    for pick in [Pick::Old, Pick::New, Pick::Byte(0x55)] {
-        let mut picks = Vec::new(rt.alloc());
-        picks.push(pick)?;
-        let mut disk = Memory::new(rt.alloc(), picks, Vec::new(rt.alloc()), 100)?;
-        make_folders(&mut disk, host)?;
-        assert!(rt; replace(&mut disk, host, NEW) == End::Done(5));
-        disk.down(host);
-        assert!(rt; reads(&mut disk, other, NEW), "{pick:?}");
     }
     Ok(())
 }

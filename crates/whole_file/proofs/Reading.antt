@@ -1,13 +1,9 @@
 -- What a small file reads as, from what the disk read of it.
-use Rattle.std.proofs.Common.{◌≡◌, ◌≢◌, ◌⊎◌, ℕ, zero, suc, ◌+◌, ◌-◌, ◌*◌, ◌/◌, ◌%◌, ◌<◌, ◌≤◌, ◌==◌, ◌&&◌, min, Bool, true, false, List, [], ◌∷◌, ◌++◌, length, take, drop, replicate, Option, Some, None, unwrap_or, eq-eqb, eqb-true, refl, sym, ap, ◌∙◌, subst, inl, inr, arith, length-append, length-take, take_all, nat_le, append_assoc, append-nil}
-use Rattle.std.proofs.lemmas.List.{take-append-drop, take-take, drop-take, length-replicate}
-use Rattle.std.proofs.Math.Seq.{take-append-add, take-add, take-length}
+use Rattle.std.proofs.Common.{◌≡◌, ℕ, zero, suc, ◌+◌, ◌-◌, ◌*◌, ◌<◌, ◌≤◌, ◌==◌, min, Bool, true, false, List, [], ◌∷◌, ◌++◌, length, take, replicate, unwrap_or, eqb-true, refl, sym, ap, ◌∙◌, subst, arith, length-take, nat_le, append_assoc, append-nil}
+use Rattle.std.proofs.Math.Seq.{take-add, take-length}
 use Rattle.std.proofs.lemmas.List.Elements.{All-head, All-tail}
-use Rattle.std.specs.Prelude.{All, Contains}
-use Rattle.std.proofs.lemmas.Option.{none-some}
-use Rattle.std.proofs.lemmas.Bool.{false≢true}
 use Rattle.std.proofs.lemmas.Bool.Decides.{nat_tests}
-use Rattle.shared_disk.specs.Content.{Content, File, IsLooseAt, Loose, Sees, own_of, seen, sector_of, without}
+use Rattle.shared_disk.specs.Content.{File, Loose, Sees, own_of, seen, sector_of, without}
 use Rattle.shared_disk.specs.Calls.{ReadsAs}
 use Rattle.shared_disk.proofs.NameOutcomes.{alone_sees}
 use Rattle.whole_file.specs.Text.{HasNoZero, IsTextFile, before_zero, bytes_of, longest, padded, sectors_for, text_of}

@@ -1,15 +1,14 @@
 -- Texts, the sectors that they take, and what their files read as.
-use Rattle.std.proofs.Common.{◌≡◌, ◌≢◌, ℕ, zero, suc, ◌+◌, ◌-◌, ◌*◌, ◌/◌, ◌<◌, ◌≤◌, Bool, true, false, List, [], ◌∷◌, ◌++◌, length, take, drop, replicate, Some, refl, sym, ap, ◌∙◌, subst, arith, length-append, append-nil}
+use Rattle.std.proofs.Common.{◌≡◌, ℕ, ◌+◌, ◌-◌, ◌*◌, ◌≤◌, List, ◌++◌, length, take, replicate, ap, ◌∙◌, arith, length-append}
 use Rattle.std.proofs.Math.Seq.{take-append-add}
-use Rattle.std.proofs.lemmas.List.{take-append-drop, length-replicate, take-replicate, drop-replicate, take-append-le}
-use Rattle.shared_disk.specs.Content.{Content, File, seen, sector_of}
+use Rattle.std.proofs.lemmas.List.{length-replicate, take-replicate, drop-replicate}
+use Rattle.shared_disk.specs.Content.{Content}
 use Rattle.shared_disk.specs.Calls.{sectors_in}
 use Rattle.sd_names.specs.declared.place.Place.{Place}
 use Rattle.shared_disk.specs.Crash.{IsOutcome}
 use Rattle.shared_disk.proofs.AtPlace.{settled_stays}
 use borrow.Rule.Slice.PartMut.{post_of}
-use Rattle.whole_file.specs.Text.{HasText, IsTextFile, before_zero, bytes_of, padded, sectors_for, text_of, HasNoZero}
-use Rattle.std.specs.Prelude.{None, Option, All}
+use Rattle.whole_file.specs.Text.{HasText, padded, sectors_for}
 
 -- a padded text has whole sectors
 pub length_padded : (text : List ℕ) → length (padded text) ≡ 512 * sectors_for (length text)

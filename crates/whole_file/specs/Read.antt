@@ -1,12 +1,14 @@
 -- What a small file reads as.
-use Rattle.std.specs.Prelude.{◌≡◌, ℕ, ◌+◌, ◌<◌, ◌≤◌, List, [], length, take, Some, None, Result, Ok, Err, MatchResult}
+use Rattle.std.specs.Prelude.{◌≡◌, ℕ, ◌<◌, ◌≤◌, nat_lt, if◌then◌else◌, List, [], length, take, Some, None, Result, Ok, Err}
 use Rattle.sd_names.specs.declared.place.Place.{Place}
 use Rattle.sd_names.specs.declared.refusal.Refusal.{Refusal}
 use Rattle.sd_names.specs.declared.refusal.Refusal.TheVariants.{DiskFault}
 use Rattle.shared_disk.specs.Content.{Content, File, without}
-use Rattle.shared_disk.specs.Calls.{IsSame}
-use Rattle.whole_file.specs.Text.{longest, text_of}
-use Rattle.shared_disk.specs.Refusal.{IsDiskRefusal}
+use Rattle.shared_disk.specs.Calls.{IsSame, ReadAt}
+use Rattle.shared_disk.specs.Refusal.{refusal_of}
+use Rattle.shared_disk.specs.declared.disk.DiskAnswer.{DiskAnswer}
+use Rattle.shared_disk.specs.declared.disk.DiskAnswer.TheVariants.{NoFile}
+use Rattle.whole_file.specs.Text.{before_zero, longest, text_of}
 use Rattle.whole_file.specs.declared.read.Text.{Text}
 use Rattle.whole_file.specs.declared.read.Text.TheVariants.{Absent, Long, Bytes}
 
@@ -32,8 +34,18 @@ abbrev pub IsShort : Text → Type 0
 IsShort (Bytes n) = n ≤ longest
 IsShort _ = Unit {0}
 
--- what a reading does to the counts of the disk, whatever the disk tells
-pub record CountsOfReading (faults faults' calls calls' : ℕ) (result : Result Text Refusal) : Type 0 where
-  pub one_call : calls' ≤ calls + 1
-  pub no_less : faults ≤ faults'
-  pub cause : MatchResult result (λ _. Unit {0}) (λ refusal. IsDiskRefusal faults faults' refusal)
+-- what the bytes that were read tell: how long the text before their first zero byte is, or that it is too long
+abbrev pub text_read : List ℕ → Text
+text_read bytes = if nat_lt longest (length (before_zero bytes)) then Long else Bytes (length (before_zero bytes))
+
+-- What reading a small file answers, by what its call answered; `room` is the room after it, and `faults` the disk's count.
+abbrev pub reading_answer : ℕ → List ℕ → Result ℕ DiskAnswer → Result Text Refusal
+reading_answer faults room (Ok count) = Ok (text_read (take count room))
+reading_answer faults room (Err NoFile) = Ok Absent
+reading_answer faults room (Err answer) = Err (refusal_of answer faults)
+
+-- The file's front is read by one call, whatever stands in the folder: some answer that fits the call, and what is
+-- answered follows from it.
+abbrev pub ReadsFront : ℕ → Place → ℕ → List ℕ → List ℕ → Result Text Refusal → Content → Content → Type 0
+ReadsFront host place faults before after result d e =
+    (answer : Result ℕ DiskAnswer) × ReadAt d host place 0 before after answer e × (result ≡ reading_answer faults after answer)

@@ -1,18 +1,15 @@
 -- What a replacement of a file's text knows, and what each of its steps leaves.
-use Rattle.std.specs.Prelude.{◌≡◌, ◌≢◌, ◌⊎◌, ℕ, ◌+◌, ◌<◌, ◌≤◌, Bool, true, List, length, Some, None, Result, Ok, Err, MatchResult}
+use Rattle.std.specs.Prelude.{◌≡◌, ◌≢◌, ◌⊎◌, ℕ, ◌==◌, true, List, length, Some, None, Result, Err, MatchBool}
 use Rattle.sd_names.specs.declared.place.Dir.{Dir}
-use Rattle.sd_names.specs.declared.place.Name.{Name}
 use Rattle.sd_names.specs.declared.place.Place.{Place}
-use Rattle.sd_names.specs.declared.refusal.Refusal.{Refusal}
 use Rattle.sd_names.specs.declared.refusal.Refusal.TheVariants.{DiskFault}
 use Rattle.sd_names.specs.declared.turn.Turn.{Turn}
-use Rattle.sd_names.specs.declared.turn.Turn.TheVariants.{Done, Ended}
-use Rattle.sd_names.specs.Turn.{MatchTurn}
+use Rattle.sd_names.specs.declared.turn.Turn.TheVariants.{More, Done, Ended}
 use Rattle.shared_disk.specs.Content.{Content, File}
 use Rattle.shared_disk.specs.Calls.{Creates, Syncs, WriteAt, created, wrote}
-use Rattle.shared_disk.specs.Crash.{IsOutcome}
+use Rattle.shared_disk.specs.Crash.{IsAlone, IsOutcome}
 use Rattle.shared_disk.specs.NameCalls.{Removes, Renames, place_in}
-use Rattle.shared_disk.specs.Refusal.{IsDiskRefusal, refusal_of}
+use Rattle.shared_disk.specs.Step.{GoesOn, TurnFollows}
 use Rattle.shared_disk.specs.declared.disk.DiskAnswer.{DiskAnswer}
 use Rattle.shared_disk.specs.declared.disk.DiskAnswer.TheVariants.{NoFile}
 use Rattle.whole_file.specs.Text.{HasText, padded, sectors_for}
@@ -60,16 +57,34 @@ pub record IsApart (target volatile : Place) (d e : Content) : Type 0 where
   pub dirs : (q : Dir) → e.dir q ≡ d.dir q
   pub files : (q : Place) → q ≢ target → q ≢ volatile → e.file q ≡ d.file q
 
--- What a step leaves of a folder of which the replacement knows what its stage says; `faults` is the disk's count after
--- it. No refusal but the fault of the disk can come.
+-- What may stand under the volatile name after a refusal: what stood there before, nothing, or a file in which no other
+-- host has anything unsynced.
+abbrev pub IsLeft : ℕ → Place → Content → Content → Type 0
+IsLeft host volatile d e = (e.file volatile ≡ d.file volatile) ⊎ ((e.file volatile ≡ None) ⊎ ((f : File) × (e.file volatile ≡ Some f) × IsAlone host f))
+
+-- What a step's turn tells; `faults` is the disk's count after the step. No refusal but the fault of the disk can come.
+abbrev pub After : Turn Replace (Unit {0}) (Unit {0}) → Replace → ℕ → ℕ → List ℕ → Content → Content → Type 0
+After (More next) r host faults text d e = Knows next host text e
+After (Done _) r host faults text d e = HasText e (target_of r) text × (e.file (volatile_of r) ≡ None)
+After (Ended _ refusal) r host faults text d e = (refusal ≡ DiskFault faults) × IsLeft host (volatile_of r) d e
+
+-- What a step leaves of a folder of which the replacement knows what its stage says.
 pub record Steps (r : Replace) (host faults : ℕ) (text : List ℕ) (turn : Turn Replace (Unit {0}) (Unit {0})) (d e : Content) : Type 0 where
   pub apart : IsApart (target_of r) (volatile_of r) d e
   pub target : IsOldOrNew (target_of r) text d e
   pub outcomes : IsOldOrNewOnEach (target_of r) text d e
-  pub after : MatchTurn turn
-      (λ next. Knows next host text e)
-      (λ _. HasText e (target_of r) text × (e.file (volatile_of r) ≡ None))
-      (λ _ refusal. refusal ≡ DiskFault faults)
+  pub after : After turn r host faults text d e
+
+-- a replacement of the same file, by the same way and a text of the same length
+pub record IsSameReplace (r next : Replace) : Type 0 where
+  pub target : target_of next ≡ target_of r
+  pub volatile : volatile_of next ≡ volatile_of r
+  pub length : length_of next ≡ length_of r
+
+-- the same replacement in another stage
+pub record IsAt (r : Replace) (stage : Stage) (next : Replace) : Type 0 where
+  pub same : IsSameReplace r next
+  pub now_in : stage_of next ≡ stage
 
 -- how many more steps a replacement takes at the most
 abbrev pub left_of : Stage → ℕ
@@ -79,37 +94,17 @@ left_of Created = 3
 left_of Written = 2
 left_of Synced = 1
 
--- the same replacement in another stage
-pub record GoesOn (r next : Replace) (stage : Stage) : Type 0 where
-  pub target : target_of next ≡ target_of r
-  pub volatile : volatile_of next ≡ volatile_of r
-  pub length : length_of next ≡ length_of r
-  pub now_in : stage_of next ≡ stage
+abbrev pub replace_left : Replace → ℕ
+replace_left r = left_of (stage_of r)
 
--- the same replacement, nearer to its end
-pub record Nears (r next : Replace) : Type 0 where
-  pub target : target_of next ≡ target_of r
-  pub volatile : volatile_of next ≡ volatile_of r
-  pub length : length_of next ≡ length_of r
-  pub falls : left_of (stage_of next) < left_of (stage_of r)
-
--- whatever the disk tells, a replacement keeps its places and comes to its end
-abbrev pub GoesToEnd : Replace → Turn Replace (Unit {0}) (Unit {0}) → Type 0
-GoesToEnd r turn = MatchTurn turn (λ next. Nears r next) (λ _. Unit {0}) (λ _ _. Unit {0})
-
--- the step hands back more to do in this stage
-abbrev pub IsMore : Replace → Stage → Turn Replace (Unit {0}) (Unit {0}) → Type 0
-IsMore r stage turn = MatchTurn turn (λ next. GoesOn r next stage) (λ _. ⊥) (λ _ _. ⊥)
+-- the answer of a step's call decides its turn: Ok leads to a stage
+abbrev pub LeadsTo : Stage → Replace → ℕ → Result (Unit {0}) DiskAnswer → Turn Replace (Unit {0}) (Unit {0}) → Type 0
+LeadsTo stage r faults answer turn = TurnFollows answer faults turn (λ _. GoesOn (IsAt r stage) turn)
 
 -- a leftover file is removed, or there was none
 abbrev pub ClearedBy : Replace → ℕ → Result (Unit {0}) DiskAnswer → Turn Replace (Unit {0}) (Unit {0}) → Type 0
-ClearedBy r faults (Ok _) turn = IsMore r Cleared turn
-ClearedBy r faults (Err NoFile) turn = IsMore r Cleared turn
-ClearedBy r faults (Err answer) turn = turn ≡ Ended tt (refusal_of answer faults)
-
--- the call whose Ok leads to a stage
-abbrev pub LeadsTo : Stage → Replace → ℕ → Result (Unit {0}) DiskAnswer → Turn Replace (Unit {0}) (Unit {0}) → Type 0
-LeadsTo stage r faults answer turn = MatchResult answer (λ _. IsMore r stage turn) (λ a. turn ≡ Ended tt (refusal_of a faults))
+ClearedBy r faults (Err NoFile) turn = GoesOn (IsAt r Cleared) turn
+ClearedBy r faults answer turn = LeadsTo Cleared r faults answer turn
 
 -- the step of each stage: one call, whose answer decides the turn
 abbrev pub Clears : Replace → ℕ → Turn Replace (Unit {0}) (Unit {0}) → Content → Content → Type 0
@@ -129,11 +124,13 @@ SyncsText r host faults turn d e =
 
 abbrev pub TakesName : Replace → ℕ → Turn Replace (Unit {0}) (Unit {0}) → Content → Content → Type 0
 TakesName r faults turn d e =
-    (answer : Result (Unit {0}) DiskAnswer) × Renames d (volatile_of r) (target_of r).name answer e
-    × MatchResult answer (λ _. turn ≡ Done tt) (λ a. turn ≡ Ended tt (refusal_of a faults))
+    (answer : Result (Unit {0}) DiskAnswer) × Renames d (volatile_of r) (target_of r).name answer e × TurnFollows answer faults turn (λ _. turn ≡ Done tt)
 
--- what a step does to the counts of the disk, whatever the disk tells
-pub record Counts (faults faults' calls calls' : ℕ) (turn : Turn Replace (Unit {0}) (Unit {0})) : Type 0 where
-  pub one_call : calls' ≤ calls + 1
-  pub no_less : faults ≤ faults'
-  pub cause : MatchTurn turn (λ _. Unit {0}) (λ _. Unit {0}) (λ _ refusal. IsDiskRefusal faults faults' refusal)
+-- The call of a step, by its stage, whatever stands in the folder: some answer that fits the call, and the turn that
+-- follows from it. A text of no bytes isn't written.
+abbrev pub CallOf : Stage → Replace → ℕ → ℕ → List ℕ → Turn Replace (Unit {0}) (Unit {0}) → Content → Content → Type 0
+CallOf Begun r host faults text turn d e = Clears r faults turn d e
+CallOf Cleared r host faults text turn d e = Makes r host faults turn d e
+CallOf Created r host faults text turn d e = MatchBool (length_of r == 0) (SyncsText r host faults turn d e) (Writes r host faults text turn d e)
+CallOf Written r host faults text turn d e = SyncsText r host faults turn d e
+CallOf Synced r host faults text turn d e = TakesName r faults turn d e

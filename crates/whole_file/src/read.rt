@@ -1,7 +1,8 @@
 // Reading a small file whole.
-ghost use Rattle.std.specs.Prelude.{◌≡◌, ◌≤◌, length, take, IfOk, IfSome};
+ghost use Rattle.std.specs.Prelude.{◌≡◌, ◌≤◌, length, take, IfErr, IfOk};
 ghost use Rattle.shared_disk.specs.Calls.{Told};
-ghost use Rattle.whole_file.specs.Read.{CountsOfReading, IsShort, ReadsText};
+ghost use Rattle.shared_disk.specs.Step.{IsDiskRefusal, ResultCounts};
+ghost use Rattle.whole_file.specs.Read.{IsShort, ReadsFront, ReadsText};
 ghost use Rattle.whole_file.specs.Text.{before_zero};
 
 use sd_names::{HostId, Place, Refusal};
@@ -31,8 +32,10 @@ pub fn read_text<D: SharedDisk>(
     place: Place,
     into: &mut [u8; ROOM],
 ) -> Result<Text, Refusal>
-    ensures counts { CountsOfReading (D.faults disk.old) (D.faults disk.new) (D.calls disk.old) (D.calls disk.new) result }
+    ensures counts { ResultCounts (D.faults disk.old) (D.faults disk.new) (D.calls disk.old) (D.calls disk.new) result }
+    ensures refusals { IfErr result IsDiskRefusal }
     ensures short { IfOk result IsShort }
+    ensures call { Told (D.content disk.old) (D.content disk.new) (ReadsFront host place (D.faults disk.new) into.old into.new result) }
     ensures content { Told (D.content disk.old) (D.content disk.new) (ReadsText host place into.new (D.faults disk.new) result) }
 {
     match disk.read_at(host, place, 0, into) {

@@ -36,8 +36,9 @@ pub struct Replace {
 }
 
 impl Replace {
-    ghost use Rattle.whole_file.specs.Replace.{Clears, Counts, GoesOn, GoesToEnd, Knows, Makes, Steps, SyncsText, TakesName, Writes, length_of, stage_of, target_of, volatile_of};
+    ghost use Rattle.whole_file.specs.Replace.{CallOf, Clears, IsAt, IsSameReplace, Knows, Makes, Steps, SyncsText, TakesName, Writes, length_of, replace_left, stage_of, target_of, volatile_of};
     ghost use Rattle.shared_disk.specs.NameCalls.{place_in};
+    ghost use Rattle.shared_disk.specs.Step.{EndsOnlyBy, IsDiskRefusal, NearsEnd, StepCounts};
 
     /// A replacement of the file at `target` by a text of `length` bytes, 0 to 8,192. The volatile name is another one
     /// in the target's folder, which nobody else uses.
@@ -66,8 +67,10 @@ impl Replace {
         text: &[u8],
     ) -> Turn<Replace, (), ()>
         requires same { length text.now ≡ length_of self }
-        ensures counts { Counts (D.faults disk.old) (D.faults disk.new) (D.calls disk.old) (D.calls disk.new) result }
-        ensures keeps { GoesToEnd self result }
+        ensures counts { StepCounts (D.faults disk.old) (D.faults disk.new) (D.calls disk.old) (D.calls disk.new) result }
+        ensures refusals { EndsOnlyBy IsDiskRefusal result }
+        ensures keeps { NearsEnd (IsSameReplace self) replace_left (replace_left self) result }
+        ensures call { Told (D.content disk.old) (D.content disk.new) (CallOf (stage_of self) self host (D.faults disk.new) text.now result) }
         ensures content { Told (D.content disk.old) (D.content disk.new) (λ d e. Knows self host text.now d → Steps self host (D.faults disk.new) text.now result d e) }
     {
         match self.stage {
@@ -97,7 +100,7 @@ impl Replace {
 
     // The replacement in another stage.
     fn at(self, stage: Stage) -> Replace
-        ensures { GoesOn self result stage }
+        ensures { IsAt self stage result }
     {
         Replace {
             target: self.target,
@@ -109,8 +112,8 @@ impl Replace {
 
     // What an earlier attempt left under the volatile name is removed.
     fn clear<D: SharedDisk>(self, host: HostId, disk: &mut D) -> Turn<Replace, (), ()>
-        ensures counts { Counts (D.faults disk.old) (D.faults disk.new) (D.calls disk.old) (D.calls disk.new) result }
-        ensures next { MatchTurn result (λ next. GoesOn self next Stage.Cleared) (λ _. ⊥) (λ _ _. Unit {0}) }
+        ensures counts { StepCounts (D.faults disk.old) (D.faults disk.new) (D.calls disk.old) (D.calls disk.new) result }
+        ensures next { MatchTurn result (IsAt self Stage.Cleared) (λ _. ⊥) (λ _ refusal. IsDiskRefusal refusal) }
         ensures content { Told (D.content disk.old) (D.content disk.new) (Clears self (D.faults disk.new) result) }
     {
         match disk.remove(host, self.volatile_place()) {
@@ -121,8 +124,8 @@ impl Replace {
 
     // The volatile file is made, with room for the text.
     fn create<D: SharedDisk>(self, host: HostId, disk: &mut D) -> Turn<Replace, (), ()>
-        ensures counts { Counts (D.faults disk.old) (D.faults disk.new) (D.calls disk.old) (D.calls disk.new) result }
-        ensures next { MatchTurn result (λ next. GoesOn self next Stage.Created) (λ _. ⊥) (λ _ _. Unit {0}) }
+        ensures counts { StepCounts (D.faults disk.old) (D.faults disk.new) (D.calls disk.old) (D.calls disk.new) result }
+        ensures next { MatchTurn result (IsAt self Stage.Created) (λ _. ⊥) (λ _ refusal. IsDiskRefusal refusal) }
         ensures content { Told (D.content disk.old) (D.content disk.new) (Makes self host (D.faults disk.new) result) }
     {
         let length = self.length.div_ceil(512) as u64 * 512;
@@ -136,8 +139,8 @@ impl Replace {
     fn write<D: SharedDisk>(self, host: HostId, disk: &mut D, text: &[u8]) -> Turn<Replace, (), ()>
         requires same { length text.now ≡ length_of self }
         requires some { 0 < length text.now }
-        ensures counts { Counts (D.faults disk.old) (D.faults disk.new) (D.calls disk.old) (D.calls disk.new) result }
-        ensures next { MatchTurn result (λ next. GoesOn self next Stage.Written) (λ _. ⊥) (λ _ _. Unit {0}) }
+        ensures counts { StepCounts (D.faults disk.old) (D.faults disk.new) (D.calls disk.old) (D.calls disk.new) result }
+        ensures next { MatchTurn result (IsAt self Stage.Written) (λ _. ⊥) (λ _ refusal. IsDiskRefusal refusal) }
         ensures content { Told (D.content disk.old) (D.content disk.new) (Writes self host (D.faults disk.new) text.now result) }
     {
         let mut room = [0; LONGEST];
@@ -150,8 +153,8 @@ impl Replace {
 
     // The text is put onto the medium.
     fn sync<D: SharedDisk>(self, host: HostId, disk: &mut D) -> Turn<Replace, (), ()>
-        ensures counts { Counts (D.faults disk.old) (D.faults disk.new) (D.calls disk.old) (D.calls disk.new) result }
-        ensures next { MatchTurn result (λ next. GoesOn self next Stage.Synced) (λ _. ⊥) (λ _ _. Unit {0}) }
+        ensures counts { StepCounts (D.faults disk.old) (D.faults disk.new) (D.calls disk.old) (D.calls disk.new) result }
+        ensures next { MatchTurn result (IsAt self Stage.Synced) (λ _. ⊥) (λ _ refusal. IsDiskRefusal refusal) }
         ensures content { Told (D.content disk.old) (D.content disk.new) (SyncsText self host (D.faults disk.new) result) }
     {
         match disk.sync(host, self.volatile_place()) {
@@ -162,8 +165,8 @@ impl Replace {
 
     // The volatile file takes the target's name.
     fn rename<D: SharedDisk>(self, host: HostId, disk: &mut D) -> Turn<Replace, (), ()>
-        ensures counts { Counts (D.faults disk.old) (D.faults disk.new) (D.calls disk.old) (D.calls disk.new) result }
-        ensures last { MatchTurn result (λ _. ⊥) (λ _. Unit {0}) (λ _ _. Unit {0}) }
+        ensures counts { StepCounts (D.faults disk.old) (D.faults disk.new) (D.calls disk.old) (D.calls disk.new) result }
+        ensures last { MatchTurn result (λ _. ⊥) (λ _. Unit {0}) (λ _ refusal. IsDiskRefusal refusal) }
         ensures content { Told (D.content disk.old) (D.content disk.new) (TakesName self (D.faults disk.new) result) }
     {
         match disk.rename(host, self.volatile_place(), self.target.name) {

@@ -1,7 +1,7 @@
 use Rattle.std.proofs.lemmas.List.{take-take}
-use Rattle.std.proofs.Common.{length-take, ◌≡◌, ◌≤◌, List, ℕ, length, take, arith, ap, sym, ◌∙◌, subst}
-use Rattle.whole_file.specs.Text.{before_zero, longest, text_of}
-use Rattle.whole_file.proofs.Reading.{TellsText, text_in_room}
+use Rattle.std.proofs.Common.{length-take, ◌≡◌, ◌≤◌, List, ℕ, take, arith, sym, ◌∙◌}
+use Rattle.whole_file.specs.Text.{before_zero}
+use Rattle.whole_file.proofs.Reading.{text_in_room}
 use Rattle.whole_file.proofs.read.read_text.Goals as goal
 
 pub returns-then-length-gt-LONGEST-clause-content : goal.returns-then-length-gt-LONGEST-clause-content

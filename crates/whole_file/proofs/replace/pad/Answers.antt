@@ -1,4 +1,4 @@
-use Rattle.std.proofs.Common.{◌≡◌, ◌*◌, ◌++◌, take, length, List, ℕ, ap, ◌∙◌, arith}
+use Rattle.std.proofs.Common.{◌*◌, ◌++◌, take, length, List, ℕ, ap, ◌∙◌, arith}
 use borrow.Rule.Slice.PartMut.{post_of}
 use Rattle.whole_file.proofs.Texts.{padded_in_room}
 use Rattle.whole_file.proofs.replace.pad.Goals as goal

@@ -1,4 +1,4 @@
-use Rattle.std.proofs.Common.{◌≡◌, refl, arith}
+use Rattle.std.proofs.Common.{arith}
 use Rattle.whole_file.proofs.Steps.{clear_step, create_step, write_step, sync_step, rename_step, written_by_stage, written_when_empty}
 use Rattle.whole_file.proofs.replace.Replace.step.Goals as goal
 
