@@ -1,8 +1,6 @@
-// Each move and each refusal over a disk in memory, two hosts that race for a sector, and a fault in an exchange.
-ghost use Rattle.std.specs.Prelude.{IfSome};
-ghost use Rattle.lease_area.specs.Sector.{IsSector};
-
-use lease_area::{Kind, Lease, LeaseRecord, Scan, Scanned, Sector, take};
+// What no clause says: each move and each refusal over a disk in memory, hosts that race for a sector, a fault in an
+// exchange, and whole scans.
+use lease_area::{Kind, LeaseRecord, Scan, Scanned, Sector, empty_task, free_task, take};
 use memory_disk::Memory;
 use sd_names::{Dir, HostId, Id, Name, NoMemory, Place, Refusal, Turn, UpSet};
 use shared_disk::{DiskAnswer, SharedDisk};
@@ -20,59 +18,60 @@ const LEASES: Place = Place {
     name: Name::Leases,
 };
 
-// A lease of the image in sector 5, or of the role in sector 0.
-fn lease(kind: Kind, owner: u8, version: u64, image: Id) -> Sector {
-    Sector::Lease(LeaseRecord {
-        kind,
-        owner,
-        version,
-        image,
-    })
+// The last version.
+const LAST: u64 = (1 << 63) - 1;
+
+// A sector in short: empty, or a lease by its kind, owner, version and image.
+#[derive(Clone, Copy, Debug)]
+enum Short {
+    Empty,
+    Free(u64, Id),
+    Guest(u8, u64, Id),
+    Task(u8, u64, Id),
 }
 
-// Takes the sector for the image, or sector 0 for the role: the new lease, or the refusal's number; 0 where the call can't
-// be made so.
-fn ask(
-    host: HostId,
-    up: &UpSet,
-    slot: u16,
-    expect: &Sector,
-    kind: Kind,
-    disk: &mut Memory,
-) -> Result<LeaseRecord, u16> {
-    let expect = match Sector::read(&expect.write()) {
-        Some(sector) => sector,
-        None => return Err(0),
-    };
-    if slot == 0 {
-        return told(take(host, up, SD, 0, &expect, Kind::Guest, Id::ZERO, disk));
-    }
-    if slot >= 1024 {
-        return Err(0);
-    }
-    match kind {
-        Kind::Free => Err(0),
-        Kind::Guest => told(take(host, up, SD, slot, &expect, Kind::Guest, IMAGE, disk)),
-        Kind::Task => told(take(host, up, SD, slot, &expect, Kind::Task, IMAGE, disk)),
+// What host 1 does with a sector.
+#[derive(Clone, Copy, Debug)]
+enum Call {
+    Take(Kind),
+    // Takes it for a guest and releases it; this stands there by then.
+    Release(Short),
+    // Takes it for a task and clears it.
+    Clear,
+    FreeTask,
+    EmptyTask,
+}
+
+// The sector that is meant; an empty one where there is none such.
+fn sector(short: Short) -> Sector {
+    match short {
+        Short::Free(version, image) if version <= LAST => Sector::Lease(LeaseRecord {
+            kind: Kind::Free,
+            owner: 0,
+            version,
+            image,
+        }),
+        Short::Guest(owner, version, image) if 1 <= owner && owner <= 250 && version <= LAST => {
+            Sector::Lease(LeaseRecord {
+                kind: Kind::Guest,
+                owner,
+                version,
+                image,
+            })
+        }
+        Short::Task(owner, version, image) if 1 <= owner && owner <= 250 && version <= LAST => {
+            Sector::Lease(LeaseRecord {
+                kind: Kind::Task,
+                owner,
+                version,
+                image,
+            })
+        }
+        _ => Sector::Empty,
     }
 }
 
-// The new lease, or the refusal's number.
-fn told(answer: Result<Lease, Refusal>) -> Result<LeaseRecord, u16> {
-    match answer {
-        Ok(lease) => Ok(lease.record()),
-        Err(refusal) => Err(refusal.number()),
-    }
-}
-
-// A free lease of the image, as it is read.
-fn free_lease(version: u8) -> Option<Sector>
-    ensures { IfSome result IsSector }
-{
-    Sector::read(&lease(Kind::Free, 0, u64::from(version), IMAGE).write())
-}
-
-// A leases file of empty sectors, by host 1, on a disk that fails in this call, from 0; it takes the calls 0 to 3.
+// A leases file of empty sectors, by a host, on a disk that fails in this call, from 0; it takes the calls 0 to 3.
 fn make_leases(alloc: Global, host: HostId, failing: u64) -> Result<Memory, NoMemory> {
     let mut list = Vec::new(alloc);
     if list.push(failing).is_err() {
@@ -87,8 +86,8 @@ fn make_leases(alloc: Global, host: HostId, failing: u64) -> Result<Memory, NoMe
 }
 
 // Puts a sector into the leases file.
-fn put(disk: &mut Memory, host: HostId, slot: u16, sector: &Sector) -> Result<(), DiskAnswer> {
-    disk.write_at(host, LEASES, 512 * u64::from(slot), &sector.write())?;
+fn put(disk: &mut Memory, host: HostId, slot: u16, short: Short) -> Result<(), DiskAnswer> {
+    disk.write_at(host, LEASES, 512 * u64::from(slot), &sector(short).write())?;
     disk.sync(host, LEASES)
 }
 
@@ -101,15 +100,77 @@ fn stands(disk: &mut Memory, host: HostId, slot: u16) -> Option<Sector> {
     }
 }
 
+// The number of a refusal; 0 where there is none.
+fn number(answer: Result<(), Refusal>) -> u16 {
+    match answer {
+        Ok(()) => 0,
+        Err(refusal) => refusal.number(),
+    }
+}
+
+// Makes a call with the sector as it was read: the refusal's number, 0 where there is none.
+fn make(host: HostId, up: &UpSet, slot: u16, read: Sector, call: Call, disk: &mut Memory) -> u16 {
+    if slot == 0 {
+        return match take(host, up, SD, 0, &read, Kind::Guest, Id::ZERO, disk) {
+            Ok(lease) => {
+                lease.lost();
+                0
+            }
+            Err(refusal) => refusal.number(),
+        };
+    }
+    if slot >= 1024 {
+        return 0;
+    }
+    match call {
+        Call::Take(Kind::Task) | Call::Clear => {
+            match take(host, up, SD, slot, &read, Kind::Task, IMAGE, disk) {
+                Ok(lease) => match call {
+                    Call::Clear => number(lease.clear(host, disk)),
+                    _ => {
+                        lease.lost();
+                        0
+                    }
+                },
+                Err(refusal) => refusal.number(),
+            }
+        }
+        Call::Take(_) => match take(host, up, SD, slot, &read, Kind::Guest, IMAGE, disk) {
+            Ok(lease) => {
+                lease.lost();
+                0
+            }
+            Err(refusal) => refusal.number(),
+        },
+        Call::Release(then) => match take(host, up, SD, slot, &read, Kind::Guest, IMAGE, disk) {
+            Ok(lease) => {
+                let _ = put(disk, host, slot, then);
+                number(lease.release(host, disk))
+            }
+            Err(refusal) => refusal.number(),
+        },
+        Call::FreeTask | Call::EmptyTask => match read {
+            Sector::Lease(held) => match held.kind {
+                Kind::Task => match call {
+                    Call::FreeTask => number(free_task(host, SD, slot, held, disk)),
+                    _ => number(empty_task(host, SD, slot, held, disk)),
+                },
+                Kind::Free | Kind::Guest => 0,
+            },
+            Sector::Empty => 0,
+        },
+    }
+}
+
 #[test]
 fn sectors_and_their_bytes(rt: HostRuntime) {
     // The bytes are written out as the table of the format says.
     let mut bytes = [0; 512];
     bytes[..16].copy_from_slice(&[0x4c, 0x45, 0x41, 0x53, 1, 7, 0, 0, 0, 0, 0, 0, 0, 0, 1, 2]);
     bytes[16..32].copy_from_slice(&IMAGE.0);
-    let sector = lease(Kind::Guest, 7, 258, IMAGE);
-    assert!(rt; sector.write() == bytes);
-    assert!(rt; Sector::read(&bytes) == Some(sector));
+    let guest = sector(Short::Guest(7, 258, IMAGE));
+    assert!(rt; guest.write() == bytes);
+    assert!(rt; Sector::read(&bytes) == Some(guest));
     assert!(rt; Sector::read(&[0; 512]) == Some(Sector::Empty));
     for (at, byte) in [
         (0, 0),
@@ -129,217 +190,162 @@ fn sectors_and_their_bytes(rt: HostRuntime) {
 }
 
 #[test]
-fn each_take(rt: HostRuntime) -> Result<(), Fail> {
+fn each_call(rt: HostRuntime) -> Result<(), Fail> {
     let host = HostId::new(1).ok_or("1")?;
     let mut up = UpSet::new();
     up.add(host);
     up.add(HostId::new(2).ok_or("2")?);
-    let free = lease(Kind::Free, 0, 4, IMAGE);
-    let last = lease(Kind::Free, 0, (1 << 63) - 1, IMAGE);
+    let free = Short::Free(4, IMAGE);
+    let last = Short::Free(LAST, IMAGE);
+    let task = Short::Task(3, 4, IMAGE);
+    let role = Short::Guest(3, 4, Id::ZERO);
+    let guest = Call::Take(Kind::Guest);
     let rows = [
-        // The sector that is handed, the one that stands, for what, and what comes of it.
-        (5, free, free, Kind::Guest, Ok((Kind::Guest, 5))),
-        (5, free, free, Kind::Task, Ok((Kind::Task, 5))),
-        (5, last, last, Kind::Guest, Ok((Kind::Guest, (1 << 63) - 1))),
+        // The sector's number, what was read there and what stands there, the call, its refusal, and what stands there
+        // after it.
+        (5, free, free, guest, 0, Short::Guest(1, 5, IMAGE)),
         (
             5,
-            Sector::Empty,
-            Sector::Empty,
-            Kind::Task,
-            Ok((Kind::Task, 1)),
+            free,
+            free,
+            Call::Take(Kind::Task),
+            0,
+            Short::Task(1, 5, IMAGE),
         ),
-        (5, Sector::Empty, Sector::Empty, Kind::Guest, Err(50)),
+        (5, last, last, guest, 0, Short::Guest(1, LAST, IMAGE)),
         (
             5,
-            lease(Kind::Guest, 1, 4, IMAGE),
-            lease(Kind::Guest, 1, 4, IMAGE),
-            Kind::Guest,
-            Ok((Kind::Guest, 5)),
+            Short::Empty,
+            Short::Empty,
+            Call::Take(Kind::Task),
+            0,
+            Short::Task(1, 1, IMAGE),
         ),
+        (5, Short::Empty, Short::Empty, guest, 50, Short::Empty),
         (
             5,
-            lease(Kind::Guest, 3, 4, IMAGE),
-            lease(Kind::Guest, 3, 4, IMAGE),
-            Kind::Guest,
-            Ok((Kind::Guest, 5)),
-        ),
-        (
-            5,
-            lease(Kind::Guest, 2, 4, IMAGE),
-            lease(Kind::Guest, 2, 4, IMAGE),
-            Kind::Guest,
-            Err(52),
+            Short::Guest(1, 4, IMAGE),
+            Short::Guest(1, 4, IMAGE),
+            guest,
+            0,
+            Short::Guest(1, 5, IMAGE),
         ),
         (
             5,
-            lease(Kind::Task, 3, 4, IMAGE),
-            lease(Kind::Task, 3, 4, IMAGE),
-            Kind::Task,
-            Err(52),
+            Short::Guest(3, 4, IMAGE),
+            Short::Guest(3, 4, IMAGE),
+            guest,
+            0,
+            Short::Guest(1, 5, IMAGE),
+        ),
+        (
+            5,
+            Short::Guest(2, 4, IMAGE),
+            Short::Guest(2, 4, IMAGE),
+            guest,
+            52,
+            Short::Guest(2, 4, IMAGE),
+        ),
+        (5, task, task, Call::Take(Kind::Task), 52, task),
+        (
+            5,
+            free,
+            Short::Free(6, IMAGE),
+            guest,
+            52,
+            Short::Free(6, IMAGE),
         ),
         (
             5,
             free,
-            lease(Kind::Free, 0, 6, IMAGE),
-            Kind::Guest,
-            Err(52),
+            Short::Guest(2, 5, IMAGE),
+            guest,
+            52,
+            Short::Guest(2, 5, IMAGE),
         ),
         (
             5,
             free,
-            lease(Kind::Guest, 2, 5, IMAGE),
-            Kind::Guest,
-            Err(52),
+            Short::Free(4, OTHER),
+            guest,
+            50,
+            Short::Free(4, OTHER),
+        ),
+        (5, free, Short::Empty, guest, 50, Short::Empty),
+        (
+            0,
+            Short::Empty,
+            Short::Empty,
+            guest,
+            0,
+            Short::Guest(1, 1, Id::ZERO),
+        ),
+        (0, role, role, guest, 0, Short::Guest(1, 5, Id::ZERO)),
+        (
+            0,
+            Short::Guest(2, 4, Id::ZERO),
+            Short::Guest(2, 4, Id::ZERO),
+            guest,
+            41,
+            Short::Guest(2, 4, Id::ZERO),
+        ),
+        (0, Short::Empty, role, guest, 43, role),
+        (
+            0,
+            Short::Empty,
+            Short::Free(4, Id::ZERO),
+            guest,
+            42,
+            Short::Free(4, Id::ZERO),
         ),
         (
             5,
             free,
-            lease(Kind::Free, 0, 4, OTHER),
-            Kind::Guest,
-            Err(50),
-        ),
-        (5, free, Sector::Empty, Kind::Guest, Err(50)),
-        (
+            free,
+            Call::Release(Short::Guest(1, 5, IMAGE)),
             0,
-            Sector::Empty,
-            Sector::Empty,
-            Kind::Guest,
-            Ok((Kind::Guest, 1)),
+            Short::Free(5, IMAGE),
         ),
         (
-            0,
-            lease(Kind::Guest, 3, 4, Id::ZERO),
-            lease(Kind::Guest, 3, 4, Id::ZERO),
-            Kind::Guest,
-            Ok((Kind::Guest, 5)),
+            5,
+            free,
+            free,
+            Call::Release(Short::Guest(9, 6, IMAGE)),
+            41,
+            Short::Guest(9, 6, IMAGE),
         ),
+        (5, free, free, Call::Clear, 0, Short::Empty),
+        (5, task, task, Call::FreeTask, 0, Short::Free(4, IMAGE)),
+        (5, task, task, Call::EmptyTask, 0, Short::Empty),
         (
-            0,
-            lease(Kind::Guest, 2, 4, Id::ZERO),
-            lease(Kind::Guest, 2, 4, Id::ZERO),
-            Kind::Guest,
-            Err(41),
-        ),
-        (
-            0,
-            Sector::Empty,
-            lease(Kind::Guest, 3, 4, Id::ZERO),
-            Kind::Guest,
-            Err(43),
-        ),
-        (
-            0,
-            Sector::Empty,
-            lease(Kind::Free, 0, 4, Id::ZERO),
-            Kind::Guest,
-            Err(42),
+            5,
+            task,
+            Short::Free(4, IMAGE),
+            Call::EmptyTask,
+            41,
+            Short::Free(4, IMAGE),
         ),
     ];
-    for (number, (slot, expect, there, kind, want)) in rows.into_iter().enumerate() {
+    for (row, (slot, read, there, call, refusal, left)) in rows.into_iter().enumerate() {
         let mut disk = make_leases(rt.alloc(), host, u64::MAX)?;
-        put(&mut disk, host, slot, &there)?;
-        let image = if slot == 0 { Id::ZERO } else { IMAGE };
-        let got = ask(host, &up, slot, &expect, kind, &mut disk);
-        let new = match want {
-            Ok((kind, version)) => Ok(LeaseRecord {
-                kind,
-                owner: 1,
-                version,
-                image,
-            }),
-            Err(refusal) => Err(refusal),
-        };
-        assert!(rt; got == new, "row {number}");
-        let after = match new {
-            Ok(record) => Sector::Lease(record),
-            Err(_) => there,
-        };
+        put(&mut disk, host, slot, there)?;
+        let got = make(host, &up, slot, sector(read), call, &mut disk);
+        assert!(rt; got == refusal, "row {row}");
         assert!(rt;
-            stands(&mut disk, host, slot) == Some(after),
-            "row {number}"
+            stands(&mut disk, host, slot) == Some(sector(left)),
+            "row {row}"
         );
     }
-    Ok(())
-}
-
-#[test]
-fn bytes_that_are_no_sector(rt: HostRuntime) -> Result<(), Fail> {
-    let host = HostId::new(1).ok_or("1")?;
-    let up = UpSet::new();
+    // Bytes that are no sector, in sector 0.
     let mut disk = make_leases(rt.alloc(), host, u64::MAX)?;
     disk.write_at(host, LEASES, 0, &[7; 512])?;
     disk.sync(host, LEASES)?;
-    let got = told(take(
-        host,
-        &up,
-        SD,
-        0,
-        &Sector::Empty,
-        Kind::Guest,
-        Id::ZERO,
-        &mut disk,
-    ));
-    assert!(rt; got == Err(58));
-    Ok(())
-}
-
-#[test]
-fn two_hosts_race_and_give_up(rt: HostRuntime) -> Result<(), Fail> {
-    let one = HostId::new(1).ok_or("1")?;
-    let two = HostId::new(2).ok_or("2")?;
-    let mut up = UpSet::new();
-    up.add(one);
-    up.add(two);
-    let mut disk = make_leases(rt.alloc(), one, u64::MAX)?;
-    let free = free_lease(4).ok_or("no sector")?;
-    put(&mut disk, one, 5, &free)?;
-    let held = take(one, &up, SD, 5, &free, Kind::Guest, IMAGE, &mut disk);
-    let late = take(two, &up, SD, 5, &free, Kind::Guest, IMAGE, &mut disk);
-    assert!(rt; matches!(late, Err(Refusal::ImageHeld(1))));
-    match held {
-        Ok(lease) => assert!(rt; lease.release(one, &mut disk).is_ok()),
-        Err(_) => assert!(rt; false),
-    }
-    assert!(rt; stands(&mut disk, two, 5) == Some(lease(Kind::Free, 0, 5, IMAGE)));
-    let now = free_lease(5).ok_or("no sector")?;
-    match take(two, &up, SD, 5, &now, Kind::Task, IMAGE, &mut disk) {
-        Ok(lease) => assert!(rt; lease.clear(two, &mut disk).is_ok()),
-        Err(_) => assert!(rt; false),
-    }
-    assert!(rt; stands(&mut disk, one, 5) == Some(Sector::Empty));
-    Ok(())
-}
-
-#[test]
-fn another_sector_is_found_at_the_release(rt: HostRuntime) -> Result<(), Fail> {
-    let host = HostId::new(1).ok_or("1")?;
-    let up = UpSet::new();
-    let mut disk = make_leases(rt.alloc(), host, u64::MAX)?;
-    let free = free_lease(4).ok_or("no sector")?;
-    put(&mut disk, host, 5, &free)?;
-    let held = take(host, &up, SD, 5, &free, Kind::Guest, IMAGE, &mut disk);
-    put(&mut disk, host, 5, &lease(Kind::Guest, 9, 6, IMAGE))?;
-    match held {
-        Ok(lease) => {
-            let answer = lease.release(host, &mut disk);
-            assert!(rt; matches!(answer, Err(Refusal::SpmHeld(9, 6))));
-        }
-        Err(_) => assert!(rt; false),
-    }
-    Ok(())
-}
-
-#[test]
-fn a_fault_leaves_the_sector_as_it_was(rt: HostRuntime) -> Result<(), Fail> {
-    let host = HostId::new(1).ok_or("1")?;
-    let up = UpSet::new();
+    assert!(rt; make(host, &up, 0, Sector::Empty, guest, &mut disk) == 58);
     // The calls 0 to 3 make the file, 4 and 5 put the sector, and the exchange is the sixth.
     let mut disk = make_leases(rt.alloc(), host, 6)?;
-    let free = free_lease(4).ok_or("no sector")?;
-    put(&mut disk, host, 5, &free)?;
-    let got = ask(host, &up, 5, &free, Kind::Guest, &mut disk);
-    assert!(rt; got == Err(120));
-    assert!(rt; stands(&mut disk, host, 5) == Some(free));
+    put(&mut disk, host, 5, free)?;
+    assert!(rt; make(host, &up, 5, sector(free), guest, &mut disk) == 120);
+    assert!(rt; stands(&mut disk, host, 5) == Some(sector(free)));
     Ok(())
 }
 
@@ -357,11 +363,30 @@ fn scan(disk: &mut Memory, host: HostId) -> Option<(Scanned, u8)> {
     None
 }
 
+// Takes what a scan found, for a guest: the refusal's number, 0 where there is none.
+fn take_found(scanned: Scanned, host: HostId, up: &UpSet, disk: &mut Memory) -> u16 {
+    match scanned.found {
+        Some((slot, lease)) => make(
+            host,
+            up,
+            slot,
+            Sector::Lease(lease),
+            Call::Take(Kind::Guest),
+            disk,
+        ),
+        None => 50,
+    }
+}
+
 #[test]
 fn scans_find_the_least(rt: HostRuntime) -> Result<(), Fail> {
     let host = HostId::new(1).ok_or("1")?;
-    let named = lease(Kind::Free, 0, 4, IMAGE);
-    let other = lease(Kind::Free, 0, 4, OTHER);
+    let two = HostId::new(2).ok_or("2")?;
+    let mut up = UpSet::new();
+    up.add(host);
+    up.add(two);
+    let named = Short::Free(4, IMAGE);
+    let other = Short::Free(4, OTHER);
     for (puts, found, empty) in [
         (&[][..], None, Some(1)),
         (&[(0, named)][..], None, Some(1)),
@@ -373,20 +398,18 @@ fn scans_find_the_least(rt: HostRuntime) -> Result<(), Fail> {
         ),
     ] {
         let mut disk = make_leases(rt.alloc(), host, u64::MAX)?;
-        for (slot, sector) in puts {
-            put(&mut disk, host, *slot, sector)?;
+        for (slot, short) in puts {
+            put(&mut disk, host, *slot, *short)?;
         }
         let (scanned, steps) = scan(&mut disk, host).ok_or("no scan")?;
         assert!(rt; steps == 8);
         assert!(rt; scanned.found.map(|(slot, _)| slot) == found);
         assert!(rt; scanned.empty == empty);
+        // Two hosts take what they read: the first one has it.
+        let first = take_found(scanned, host, &up, &mut disk);
+        let second = take_found(scanned, two, &up, &mut disk);
+        assert!(rt; (first, second) == if found.is_some() { (0, 52) } else { (50, 50) });
     }
-    Ok(())
-}
-
-#[test]
-fn a_domain_without_leases(rt: HostRuntime) -> Result<(), Fail> {
-    let host = HostId::new(1).ok_or("1")?;
     let mut disk = Memory::new(rt.alloc(), Vec::new(rt.alloc()), Vec::new(rt.alloc()), 10)?;
     assert!(rt; scan(&mut disk, host).is_none());
     Ok(())

@@ -7,7 +7,8 @@ use Rattle.std.specs.Str.{bytes_eq}
 use Rattle.byteorder.specs.Endian.{big_bytes, big_number}
 use Rattle.byteorder.specs.Numbers.{big_number-reads_back}
 use Rattle.byte_parts.proofs.Parts.{middle}
-use Rattle.lease_area.specs.Sector.{IsOwner, IsRecord, IsSector, fields_of, is_owner, kind_code, kind_of, record_bytes, record_in, record_with, sector_bytes, sector_in}
+use Rattle.lease_area.specs.Record.{IsOwner}
+use Rattle.lease_area.specs.Sector.{IsRecord, IsSector, fields_of, is_owner, kind_code, kind_of, record_bytes, record_in, record_with, sector_bytes, sector_in}
 use Rattle.lease_area.specs.declared.sector.Kind.{Kind}
 use Rattle.lease_area.specs.declared.sector.Kind.TheVariants.{Free, Guest, Task}
 use Rattle.lease_area.specs.declared.sector.LeaseRecord.{LeaseRecord}

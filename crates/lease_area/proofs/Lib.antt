@@ -1,5 +1,8 @@
 pub mod Fields
-pub mod TakeSteps
+pub mod ByExchange
+pub mod Moves
 pub mod Noting
 pub mod First
+pub mod Least
+pub mod WholeScan
 pub mod Surviving

@@ -1,5 +1,6 @@
 -- The moves that lease sectors make.
-use Rattle.std.specs.Prelude.{◌≡◌, ◌⊎◌, ℕ, ◌+◌, ◌-◌, ◌^◌, ◌==◌, ◌&&◌, ◌||◌, not, min, Bool, true, false, if◌then◌else◌, MatchBool, replicate, Option, Some, None}
+use Rattle.std.specs.Prelude.{◌≡◌, ◌⊎◌, ℕ, ◌+◌, ◌-◌, ◌^◌, ◌==◌, ◌&&◌, ◌||◌, not, min, Bool, true, false, if◌then◌else◌, MatchBool, Option, Some, None}
+use Rattle.sd_names.specs.Id.{zero_id}
 use Rattle.sd_names.specs.UpSet.{Hosts, is_up}
 use Rattle.sd_names.specs.declared.id.Id.{Id}
 use Rattle.shared_disk.specs.Places.{id_is}
@@ -8,10 +9,6 @@ use Rattle.lease_area.specs.declared.sector.Kind.TheVariants.{Free, Guest, Task}
 use Rattle.lease_area.specs.declared.sector.LeaseRecord.{LeaseRecord}
 use Rattle.lease_area.specs.declared.sector.Sector.{Sector}
 use Rattle.lease_area.specs.declared.sector.Sector.TheVariants.{Empty, Lease}
-
--- zeros, which are no image's identifier
-abbrev pub no_image : Id
-no_image = record { 0 = replicate 16 0 }
 
 -- a sector's owner, version and image; an empty one counts as free with owner 0 and version 0
 abbrev pub owner_of : Sector → ℕ
@@ -23,7 +20,7 @@ version_of Empty = 0
 version_of (Lease r) = r.version
 
 abbrev pub image_of : Sector → Id
-image_of Empty = no_image
+image_of Empty = zero_id
 image_of (Lease r) = r.image
 
 -- the next version; the last one, 2^63 - 1, stays

@@ -1,8 +1,9 @@
 -- Lease sectors, and the bytes that spell them. Numbers are big-endian.
-use Rattle.std.specs.Prelude.{◌≡◌, ℕ, ◌≤◌, ◌<◌, ◌^◌, ◌==◌, ◌&&◌, Bool, List, ◌∷◌, ◌++◌, Option, Some, None, take, drop, replicate, codes, slice_index, nat_le, nat_lt, if◌then◌else◌, option_map}
+use Rattle.std.specs.Prelude.{ℕ, ◌<◌, ◌^◌, ◌==◌, ◌&&◌, Bool, List, ◌∷◌, ◌++◌, Option, Some, None, take, drop, replicate, codes, slice_index, nat_le, nat_lt, if◌then◌else◌, option_map}
 use Rattle.std.specs.Str.{bytes_eq}
 use Rattle.byteorder.specs.Endian.{big_bytes, big_number}
 use Rattle.sd_names.specs.Id.{IsIdBytes}
+use Rattle.lease_area.specs.Record.{IsOwner}
 use Rattle.lease_area.specs.declared.sector.Kind.{Kind}
 use Rattle.lease_area.specs.declared.sector.Kind.TheVariants.{Free, Guest, Task}
 use Rattle.lease_area.specs.declared.sector.LeaseRecord.{LeaseRecord}
@@ -23,11 +24,6 @@ record_bytes r = codes "LEAS" ++ kind_code r.kind ∷ r.owner ∷ replicate 2 0 
 abbrev pub sector_bytes : Sector → List ℕ
 sector_bytes Empty = replicate 512 0
 sector_bytes (Lease r) = record_bytes r
-
--- nobody's number, or that of a host
-abbrev pub IsOwner : Kind → ℕ → Type 0
-IsOwner Free owner = owner ≡ 0
-IsOwner _ owner = (1 ≤ owner) × (owner ≤ 250)
 
 -- a lease whose fields are in their ranges
 pub record IsRecord (r : LeaseRecord) : Type 0 where

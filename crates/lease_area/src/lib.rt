@@ -1,18 +1,22 @@
 //! Lease sectors: who may change an image, and which host is the manager of the pool, decided by one exchange.
 #![tactic(auto)]
 
-mod file;
+mod attempt;
+mod exchange;
+mod giving;
 pub mod laws;
 mod lease;
-mod open;
+mod new_lease;
 mod refusal;
+mod rights;
 mod scan;
 mod scanned;
 mod sector;
 mod taking;
 
+pub use giving::{empty_task, free_task};
 pub use lease::Lease;
 pub use scan::Scan;
 pub use scanned::Scanned;
 pub use sector::{Kind, LeaseRecord, Sector};
-pub use taking::take;
+pub use taking::{take, take_image, take_role};

@@ -1,18 +1,19 @@
-// Why a sector isn't taken.
-ghost use Rattle.std.specs.Prelude.{◌≡◌, IfSome};
-ghost use Rattle.lease_area.specs.Hold.{image_refusal, role_refusal, take_refusal};
-ghost use Rattle.lease_area.specs.Sector.{IsSector};
+// Why a sector isn't taken or given up.
+ghost use Rattle.std.specs.Prelude.{◌≡◌, ℕ};
+ghost use Rattle.lease_area.specs.Hold.{IsImageRefusal, IsRoleRefusal, found_refusal, image_refusal, role_refusal};
+ghost use Rattle.shared_disk.specs.Refusal.{IsRisen};
 
 use crate::Sector;
-use crate::open::{is_open, may_take, owner_of, version_of};
+use crate::rights::{is_open, may_take};
 use sd_names::{HostId, Id, Refusal, UpSet};
 
-// Why an image's sector isn't taken: by what stands in it.
-fn image_refusal(up: &UpSet, host: HostId, image: Id, found: Option<Sector>) -> Refusal
-    requires { IfSome found IsSector }
-    ensures { result ≡ image_refusal up.now host image found }
+/// Why an image's sector isn't taken: by what stands in it.
+pub(crate) fn image_refusal(up: &UpSet, host: HostId, image: Id, found: Option<Sector>) -> Refusal
+    ensures exact { result ≡ image_refusal up.now host image found }
+    ensures which { IsImageRefusal result }
+    ensures no_fault { (before after : ℕ) → IsRisen before after result }
 {
-    match found {
+    match &found {
         Some(Sector::Lease(record)) => {
             if record.image == image {
                 if may_take(up, host, record.kind, record.owner) {
@@ -28,45 +29,40 @@ fn image_refusal(up: &UpSet, host: HostId, image: Id, found: Option<Sector>) -> 
     }
 }
 
-// Why sector 0 isn't taken: by what stands in it, and what was expected there.
-fn role_refusal(up: &UpSet, host: HostId, expect: &Sector, found: Option<Sector>) -> Refusal
-    requires found { IfSome found IsSector }
-    requires expect { IsSector expect.now }
-    ensures { result ≡ role_refusal up.now host expect.now found }
+/// Why sector 0 isn't taken: by what stands in it, and what was expected there.
+pub(crate) fn role_refusal(
+    up: &UpSet,
+    host: HostId,
+    expect: &Sector,
+    found: Option<Sector>,
+) -> Refusal
+    ensures exact { result ≡ role_refusal up.now host expect.now found }
+    ensures which { IsRoleRefusal result }
+    ensures no_fault { (before after : ℕ) → IsRisen before after result }
 {
     let found = match found {
         Some(found) => found,
         None => return Refusal::LeaseCorrupt(0),
     };
-    let (owner, version) = (owner_of(&found), version_of(&found));
+    let (owner, version) = (found.owner(), found.version());
     if !is_open(up, host, owner) {
         return Refusal::SpmHeld(owner, version);
     }
-    if owner != owner_of(expect) {
-        return Refusal::PrevMismatch(owner_of(expect), owner);
+    if owner != expect.owner() {
+        return Refusal::PrevMismatch(expect.owner(), owner);
     }
-    if version != version_of(expect) {
-        return Refusal::LverMismatch(version_of(expect), version);
+    if version != expect.version() {
+        return Refusal::LverMismatch(expect.version(), version);
     }
     Refusal::SpmHeld(host.get(), version)
 }
 
-/// Why a sector isn't taken: by what stands in it, and what was expected there.
-pub(crate) fn take_refusal(
-    up: &UpSet,
-    host: HostId,
-    slot: u16,
-    image: Id,
-    expect: &Sector,
-    found: Option<Sector>,
-) -> Refusal
-    requires found { IfSome found IsSector }
-    requires expect { IsSector expect.now }
-    ensures { result ≡ take_refusal up.now host slot image expect.now found }
+/// That another sector than a lease's own was found: its owner and version.
+pub(crate) fn found_refusal(found: &[u8; 512]) -> Refusal
+    ensures { result ≡ found_refusal found.now }
 {
-    if slot == 0 {
-        role_refusal(up, host, expect, found)
-    } else {
-        image_refusal(up, host, image, found)
+    match Sector::read(found) {
+        Some(sector) => Refusal::SpmHeld(sector.owner(), sector.version()),
+        None => Refusal::SpmHeld(0, 0),
     }
 }

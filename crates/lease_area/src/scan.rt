@@ -3,7 +3,7 @@ ghost use Rattle.std.specs.Prelude.{◌≡◌, ◌<◌};
 ghost use Rattle.shared_disk.specs.Content.{sector_of};
 
 use crate::Scanned;
-use crate::file::leases_file;
+use crate::exchange::leases_file;
 use sd_names::{HostId, Id, Turn};
 use shared_disk::{SharedDisk, refusal_for};
 
@@ -34,9 +34,9 @@ impl Scan {
     ghost use Rattle.std.specs.Prelude.{ℕ, ◌*◌, ◌/◌, ◌+◌, ◌≤◌, List, length};
     ghost use Rattle.shared_disk.specs.Calls.{Told};
     ghost use Rattle.shared_disk.specs.Content.{sector_of};
-    ghost use Rattle.lease_area.specs.Hold.{OneExchange};
+    ghost use Rattle.shared_disk.specs.Step.{EndsOnlyBy, IsDiskRefusal, NearsEnd, StepCounts};
     ghost use Rattle.lease_area.specs.Noted.{noted, nothing_seen};
-    ghost use Rattle.lease_area.specs.Scan.{FaultRises, IsNext, ScanSteps, TakesEight, scan_domain, scan_image, seen_by, steps_made};
+    ghost use Rattle.lease_area.specs.Scan.{HasSeen, IsEighth, IsNext, ScanSteps, scan_domain, scan_image, scan_left, seen_by, steps_made};
 
     /// A scan of the domain's leases for the image.
     pub fn begin(sd: Id, image: Id) -> Scan
@@ -63,9 +63,10 @@ impl Scan {
         disk: &mut D,
         buffer: &mut [u8; PIECE],
     ) -> Turn<Scan, Scanned, ()>
-        ensures counts { OneExchange (D.faults disk.old) (D.faults disk.new) (D.calls disk.old) (D.calls disk.new) }
-        ensures cause { FaultRises (D.faults disk.old) (D.faults disk.new) result }
-        ensures eight { TakesEight self result }
+        ensures counts { StepCounts (D.faults disk.old) (D.faults disk.new) (D.calls disk.old) (D.calls disk.new) result }
+        ensures refusals { EndsOnlyBy IsDiskRefusal result }
+        ensures keeps { NearsEnd (IsNext self) scan_left (scan_left self) result }
+        ensures eight { IsEighth self result }
         ensures content { Told (D.content disk.old) (D.content disk.new) (ScanSteps self host (D.faults disk.new) buffer.old buffer.new result) }
     {
         let from = 65536 * u64::from(self.made);
@@ -93,7 +94,7 @@ impl Scan {
 
     // The next step, or the end.
     fn next(self, seen: Scanned) -> Turn<Scan, Scanned, ()>
-        ensures { IsNext self seen result }
+        ensures { HasSeen self seen result }
     {
         if self.made == 7 {
             return Turn::Done(seen);

@@ -1,11 +1,14 @@
 // A lease sector, and the bytes that spell it.
-ghost use Rattle.std.specs.Prelude.{◌≡◌, ◌+◌, ◌≤◌, ◌<◌, ◌^◌, length, take, drop, IfSome, Some};
-ghost use Rattle.lease_area.specs.Sector.{IsRecord, IsSector, fields_of, is_owner, kind_code, kind_of, record_bytes, record_in, record_with, sector_bytes, sector_in};
+ghost use Rattle.std.specs.Prelude.{◌≡◌, ◌≤◌, ◌<◌, ◌^◌, true, IfSome, Some};
+ghost use Rattle.lease_area.specs.Move.{image_of, owner_of, version_of};
+ghost use Rattle.lease_area.specs.Record.{IsOwner};
+ghost use Rattle.lease_area.specs.Sector.{IsRecord, IsSector, is_owner, kind_code, kind_of, record_bytes, record_in, record_with, sector_bytes, sector_in};
 ghost use Rattle.lease_area.specs.declared.sector.Sector.{Sector as AnySector};
 
 use byte_parts::put;
 use byteorder::{BigEndian, ByteOrder};
 use sd_names::Id;
+use std::marker::Model;
 
 /// What a lease is held for.
 #[derive(Clone, Copy, Debug, PartialEq, Eq)]
@@ -18,7 +21,7 @@ pub enum Kind {
     Task,
 }
 
-/// A lease.
+/// A lease. Its ranges are part of the type: whoever holds one needs no test of its numbers.
 #[derive(Clone, Copy, Debug, PartialEq, Eq)]
 pub struct LeaseRecord {
     pub kind: Kind,
@@ -28,6 +31,19 @@ pub struct LeaseRecord {
     pub version: u64,
     /// Whose lease it is; zeros in sector 0.
     pub image: Id,
+}
+
+impl Model for LeaseRecord {
+    ghost use Rattle.std.specs.Prelude.{◌<◌, ◌^◌};
+    ghost use Rattle.lease_area.specs.Record.{Fields, IsOwner};
+
+    ghost Value = { Fields };
+
+    ghost view = { λ r. record { kind = r.kind; owner = r.owner; version = r.version; image = r.image } };
+
+    ghost invariant = { λ r. IsOwner r.kind r.owner × (r.version < 2 ^ 63) };
+
+    ghost inverse = { λ v. record { kind = v.kind; owner = v.owner; version = v.version; image = v.image } };
 }
 
 /// What a sector of the leases file holds.
@@ -69,25 +85,12 @@ fn code_of(kind: Kind) -> u8
 
 // Whether a kind may have an owner.
 fn is_owner(kind: Kind, owner: u8) -> bool
-    ensures { result ≡ is_owner kind owner }
+    ensures exact { result ≡ is_owner kind owner }
+    ensures owner { result ≡ true → IsOwner kind owner }
 {
     match kind {
         Kind::Free => owner == 0,
         Kind::Guest | Kind::Task => 1 <= owner && owner <= 250,
-    }
-}
-
-// What stands at the places of a lease's fields.
-fn fields(bytes: &[u8; 512], kind: Kind) -> LeaseRecord
-    ensures { result ≡ fields_of bytes.now kind }
-{
-    let mut image = [0; 16];
-    image.copy_from_slice(&bytes[16..32]);
-    LeaseRecord {
-        kind,
-        owner: bytes[5],
-        version: BigEndian::read_u64(&bytes[8..16]),
-        image: Id(image),
     }
 }
 
@@ -96,10 +99,21 @@ fn record_with(bytes: &[u8; 512], kind: Kind) -> Option<LeaseRecord>
     ensures found { IfSome result (λ r. IsRecord r × (bytes.now ≡ record_bytes r)) }
     ensures exact { result ≡ record_with bytes.now (Some kind) }
 {
-    let record = fields(bytes, kind);
-    record.image.has_sixteen_bytes();
-    if is_owner(kind, record.owner) && record.version < VERSIONS && record.write() == *bytes {
-        Some(record)
+    let (owner, version) = (bytes[5], BigEndian::read_u64(&bytes[8..16]));
+    if !is_owner(kind, owner) || version >= VERSIONS {
+        return None;
+    }
+    let mut image = [0; 16];
+    image.copy_from_slice(&bytes[16..32]);
+    let image = Id(image);
+    image.has_sixteen_bytes();
+    if spelled(kind, owner, version, &image) == *bytes {
+        Some(LeaseRecord {
+            kind,
+            owner,
+            version,
+            image,
+        })
     } else {
         None
     }
@@ -152,6 +166,38 @@ impl Sector {
             Sector::Lease(record) => record.write(),
         }
     }
+
+    /// The owner, 0 where the sector is empty.
+    pub(crate) fn owner(&self) -> u8
+        ensures value { result ≡ owner_of self.now }
+        ensures fits { result ≤ 250 }
+    {
+        match self {
+            Sector::Lease(record) => record.owner,
+            Sector::Empty => 0,
+        }
+    }
+
+    /// The version, 0 where the sector is empty.
+    pub(crate) fn version(&self) -> u64
+        ensures value { result ≡ version_of self.now }
+        ensures fits { result < 2 ^ 63 }
+    {
+        match self {
+            Sector::Lease(record) => record.version,
+            Sector::Empty => 0,
+        }
+    }
+
+    /// The image, zeros where the sector is empty.
+    pub(crate) fn image(&self) -> Id
+        ensures { result ≡ image_of self.now }
+    {
+        match self {
+            Sector::Lease(record) => record.image,
+            Sector::Empty => Id::ZERO,
+        }
+    }
 }
 
 impl LeaseRecord {
@@ -159,11 +205,18 @@ impl LeaseRecord {
     fn write(&self) -> [u8; 512]
         ensures { result ≡ record_bytes self.now }
     {
-        let mut bytes = [0; 512];
-        put(&mut bytes, 0, b"LEAS");
-        put(&mut bytes, 4, &[code_of(self.kind), self.owner, 0, 0]);
-        put(&mut bytes, 8, &self.version.to_be_bytes());
-        put(&mut bytes, 16, &self.image.0);
-        bytes
+        spelled(self.kind, self.owner, self.version, &self.image)
     }
+}
+
+// The bytes that spell these fields.
+fn spelled(kind: Kind, owner: u8, version: u64, image: &Id) -> [u8; 512]
+    ensures { result ≡ record_bytes (record { kind = kind; owner = owner; version = version; image = image.now }) }
+{
+    let mut bytes = [0; 512];
+    put(&mut bytes, 0, b"LEAS");
+    put(&mut bytes, 4, &[code_of(kind), owner, 0, 0]);
+    put(&mut bytes, 8, &version.to_be_bytes());
+    put(&mut bytes, 16, &image.0);
+    bytes
 }

@@ -1,13 +1,12 @@
 -- Each part stands behind the parts before it, and zeros behind it.
 use Rattle.std.proofs.Common.{ℕ, List, [], ◌∷◌, ◌++◌, ◌∙◌, replicate, refl, arith, codes, length-append}
 use Rattle.lease_area.specs.Sector.{record_bytes}
-use Rattle.lease_area.proofs.sector.LeaseRecord.write.Goals as goal
+use Rattle.lease_area.proofs.sector.spelled.Goals as goal
 
 pub returns : goal.returns
 unfolding record_bytes
 returns c =
-    let s = c.args.self.now in
-    let head : List ℕ = codes "LEAS" ++ c.code_of.result ∷ s.owner ∷ replicate 2 0 in
+    let head : List ℕ = codes "LEAS" ++ c.code_of.result ∷ c.args.owner ∷ replicate 2 0 in
     let magic = c.put.ensures.part [] 508 512 refl refl refl in
     let kind = c.put-2.ensures.part (codes "LEAS") 504 508 refl refl magic in
     let version = c.put-3.ensures.part head 496 504 refl (omega arith) kind in

@@ -1,12 +1,12 @@
-// The leases file, and what is found in it.
-ghost use Rattle.std.specs.Prelude.{◌≡◌, ◌≢◌, ℕ, ◌+◌, ◌-◌, ◌^◌, min, IfOk};
+// The exchange of a sector of the leases file.
+ghost use Rattle.std.specs.Prelude.{◌≡◌, ℕ, ◌+◌, ◌-◌, ◌^◌, min};
 ghost use Rattle.shared_disk.specs.Calls.{HasCause, Told};
 ghost use Rattle.shared_disk.specs.SectorCalls.{Exchanges};
-ghost use Rattle.lease_area.specs.Hold.{leases_of, owner_in, version_in};
-ghost use Rattle.lease_area.specs.Sector.{sector_bytes, sector_in};
+ghost use Rattle.lease_area.specs.Hold.{leases_of};
+ghost use Rattle.lease_area.specs.Sector.{sector_bytes};
 
 use crate::Sector;
-use sd_names::{Dir, HostId, Id, Name, Place, Refusal};
+use sd_names::{Dir, HostId, Id, Name, Place};
 use shared_disk::{DiskAnswer, Exchanged, SharedDisk};
 
 /// The leases file of a domain.
@@ -19,18 +19,8 @@ pub(crate) fn leases_file(sd: Id) -> Place
     }
 }
 
-/// That another sector than a lease's own was found: its owner and version.
-pub(crate) fn held_by(found: &[u8; 512]) -> Refusal
-    ensures { result ≡ Refusal.SpmHeld (owner_in (sector_in found.now)) (version_in (sector_in found.now)) }
-{
-    match Sector::read(found) {
-        Some(Sector::Lease(record)) => Refusal::SpmHeld(record.owner, record.version),
-        Some(Sector::Empty) | None => Refusal::SpmHeld(0, 0),
-    }
-}
-
-/// Exchanges a sector of a domain for another one.
-pub(crate) fn swap<D: SharedDisk>(
+/// Exchanges a sector of a domain's leases file for another one.
+pub(crate) fn exchange_sector<D: SharedDisk>(
     host: HostId,
     sd: Id,
     slot: u16,
