@@ -3,7 +3,7 @@ use Rattle.std.proofs.Common.{◌≡◌, ℕ, refl, sym, ap, ◌∙◌}
 use Rattle.sd_names.specs.declared.absence.Absence.{Absence}
 use Rattle.sd_names.specs.declared.absence.Absence.TheVariants as absence
 use Rattle.sd_names.specs.declared.refusal.Refusal.{Refusal}
-use Rattle.sd_names.specs.declared.refusal.Refusal.TheVariants.{DiskFault, Vanished}
+use Rattle.sd_names.specs.declared.refusal.Refusal.TheVariants.{Vanished}
 use Rattle.shared_disk.specs.Calls.{Rose}
 use Rattle.shared_disk.specs.Refusal.{IsRisen, refusal_of}
 use Rattle.shared_disk.specs.Step.{IsDiskRefusal}
