@@ -2,13 +2,12 @@
 use Rattle.std.proofs.Common.{◌≡◌, ℕ, ◌+◌, List, [], ◌∷◌, refl, sym, ◌∙◌, ap, Some, None, Err}
 use Rattle.sd_names.specs.declared.refusal.Refusal.TheVariants.{BadArgument}
 use Rattle.script_lines.specs.Words.{words}
-use Rattle.script_lines.specs.Argument.{Kind, identifier, set_identifier, number, capacity, description, data_text, layout, Value, first_value, continued, onto, values_of}
+use Rattle.script_lines.specs.Argument.{Kind, identifier, set_identifier, number, description, data_text, layout, Value, first_value, continued, onto, values_of}
 
 none_first : (kind : Kind) → first_value kind [] ≡ None
 none_first identifier = refl
 none_first set_identifier = refl
 none_first (number low high) = refl
-none_first (capacity low) = refl
 none_first description = refl
 none_first data_text = refl
 none_first layout = refl

@@ -19,7 +19,7 @@ use Rattle.sd_names.specs.declared.kinds.Format.{Format}
 use Rattle.sd_names.specs.declared.kinds.Format.TheVariants.{Raw, Cow}
 use Rattle.sd_names.specs.declared.kinds.AllocKind.{AllocKind}
 use Rattle.sd_names.specs.declared.kinds.AllocKind.TheVariants.{Sparse, Preallocated}
-use Rattle.script_lines.specs.Argument.{Kind, identifier, set_identifier, number, capacity, description, data_text, layout, Value, id_value, number_value, bytes_value, layout_value, id_of, set_id_of, number_in, capacity_in, description_of, layout_of, first_value, before, onto, values_of}
+use Rattle.script_lines.specs.Argument.{Kind, identifier, set_identifier, number, description, data_text, layout, Value, id_value, number_value, bytes_value, layout_value, id_of, set_id_of, number_in, description_of, layout_of, first_value, before, onto, values_of}
 use Rattle.script_lines.specs.Spelled.{description_text, format_text, allocation_text, value_words, values_words, is_graphic, IsDescription, IsData, IsLayout, IsValueOf, AreValuesOf}
 use Rattle.script_lines.proofs.ArgumentLemmas.{found}
 use Rattle.script_lines.proofs.IdentifierLemmas.{id_found}
@@ -74,10 +74,6 @@ pub number_reads : (low high n : ℕ) → low ≤ n → n ≤ high → n < 2 ^ 6
 unfolding number_in
 number_reads low high n above below small = rw (number_read n small, le-leb low n above, le-leb n high below) refl
 
-capacity_reads : (low n : ℕ) → low ≤ n → n ≤ 1099511627776 → n % 512 ≡ 0 → capacity_in low (decimal n) ≡ Some n
-unfolding capacity_in
-capacity_reads low n above below whole = rw (number_reads low 1099511627776 n above below (omega arith), whole) refl
-
 -- descriptions
 description_word : (text : List ℕ) → IsDescription text → IsWord (description_text text)
 description_word [] is = (omega arith, refl)
@@ -125,7 +121,6 @@ first_reads : (kind : Kind) (value : Value) (rest : List (List ℕ)) → fits ki
 first_reads identifier (id_value bytes) rest fit is = rw (id_reads bytes is) refl
 first_reads set_identifier (id_value bytes) rest fit is = rw (set_id_reads bytes is.0 is.1) refl
 first_reads (number low high) (number_value n) rest fit is = rw (number_reads low high n is.0 is.1 (omega (arith, ltb-true high (2 ^ 64) fit, is.1))) refl
-first_reads (capacity low) (number_value n) rest fit is = rw (capacity_reads low n is.0 is.1 is.2) refl
 first_reads description (bytes_value text) rest fit is = rw (description_reads text is) refl
 first_reads data_text (bytes_value bytes) rest fit is = rw (encoded_reads bytes is.in_range is.some is.short) refl
 first_reads layout (layout_value format allocation) rest fit is = ap (before rest) (layout_reads format allocation is)
@@ -138,8 +133,6 @@ first_words identifier (id_value bytes) fit is = ((id_word bytes, tt), omega (ar
 first_words set_identifier (id_value bytes) fit is = ((id_word bytes, tt), omega (arith, id_text-length bytes))
 first_words (number low high) (number_value n) fit is =
     let small : n < 2 ^ 64 = omega (arith, ltb-true high (2 ^ 64) fit, is.1) in ((number_word n small, tt), omega (arith, number_short n small))
-first_words (capacity low) (number_value n) fit is =
-    let small : n < 2 ^ 64 = omega (arith, is.1) in ((number_word n small, tt), omega (arith, number_short n small))
 first_words description (bytes_value text) fit is =
     ((description_word text is, tt), omega (arith, description_short text is.short))
 first_words data_text (bytes_value bytes) fit is =

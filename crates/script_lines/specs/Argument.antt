@@ -19,8 +19,6 @@ pub data Kind : Type 0 where
   set_identifier : Kind
   -- a number from one bound to another
   number : ℕ → ℕ → Kind
-  -- a capacity: a multiple of 512 from a bound to 1 TiB
-  capacity : ℕ → Kind
   -- a description of 1 to 200 bytes, `-` for the empty one
   description : Kind
   -- data text
@@ -51,10 +49,6 @@ set_id_of word = option_and_then (passing (λ bytes. not (bytes_eq bytes (replic
 unfoldable pub number_in : ℕ → ℕ → List ℕ → Option ℕ
 number_in low high word = option_and_then (passing (λ n. nat_le low n && nat_le n high)) (number_of word)
 
--- a capacity, in bytes
-unfoldable pub capacity_in : ℕ → List ℕ → Option ℕ
-capacity_in low word = option_and_then (passing (λ n. n % 512 == 0)) (number_in low 1099511627776 word)
-
 -- a description: `-` is the empty one
 unfoldable pub description_of : List ℕ → Option (List ℕ)
 description_of word =
@@ -76,7 +70,6 @@ abbrev pub value_of : Kind → List ℕ → Option Value
 value_of identifier word = option_map id_value (id_of word)
 value_of set_identifier word = option_map id_value (set_id_of word)
 value_of (number low high) word = option_map number_value (number_in low high word)
-value_of (capacity low) word = option_map number_value (capacity_in low word)
 value_of description word = option_map bytes_value (description_of word)
 value_of data_text word = option_map bytes_value (data_of word)
 value_of layout word = None

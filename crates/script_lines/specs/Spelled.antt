@@ -7,7 +7,7 @@ use Rattle.sd_names.specs.declared.kinds.Format.{Format}
 use Rattle.sd_names.specs.declared.kinds.Format.TheVariants.{Raw, Cow}
 use Rattle.sd_names.specs.declared.kinds.AllocKind.{AllocKind}
 use Rattle.sd_names.specs.declared.kinds.AllocKind.TheVariants.{Sparse, Preallocated}
-use Rattle.script_lines.specs.Argument.{Kind, identifier, set_identifier, number, capacity, description, data_text, layout, Value, id_value, number_value, bytes_value, layout_value}
+use Rattle.script_lines.specs.Argument.{Kind, identifier, set_identifier, number, description, data_text, layout, Value, id_value, number_value, bytes_value, layout_value}
 use Rattle.script_lines.specs.Verbs.{verb_text, kinds_of}
 use Rattle.script_lines.specs.Said.{Event, silent, refused, boot, down, step, end, begin, whole, Call}
 use Rattle.script_lines.specs.declared.verb_names.VerbWord.{VerbWord}
@@ -85,7 +85,6 @@ abbrev pub IsValueOf : Kind → Value → Type 0
 IsValueOf identifier (id_value bytes) = IsIdBytes bytes
 IsValueOf set_identifier (id_value bytes) = IsIdBytes bytes × (bytes ≢ replicate 16 0)
 IsValueOf (number low high) (number_value n) = (low ≤ n) × (n ≤ high)
-IsValueOf (capacity low) (number_value n) = (low ≤ n) × (n ≤ 1099511627776) × (n % 512 ≡ 0)
 IsValueOf description (bytes_value text) = IsDescription text
 IsValueOf data_text (bytes_value bytes) = IsData bytes
 IsValueOf layout (layout_value format allocation) = IsLayout format allocation

@@ -2,7 +2,7 @@
 use Rattle.std.specs.Prelude.{◌≡◌, ℕ, List, [], ◌∷◌, Option, IfSome, codes}
 use Rattle.sd_names.specs.declared.verb.Verb.{Verb}
 use Rattle.sd_names.specs.declared.verb.Verb.TheVariants as verb
-use Rattle.script_lines.specs.Argument.{Kind, identifier, set_identifier, number, capacity, description, data_text, layout, Value, id_value, number_value, bytes_value, layout_value}
+use Rattle.script_lines.specs.Argument.{Kind, identifier, set_identifier, number, description, data_text, layout, Value, id_value, number_value, bytes_value, layout_value}
 use Rattle.script_lines.specs.Reads.{Reads}
 use Rattle.script_lines.specs.declared.arguments.Arguments.{Arguments}
 use Rattle.script_lines.specs.declared.verb_names.VerbWord.{VerbWord}
@@ -45,12 +45,12 @@ kinds_of word.MakePool = identifier ∷ identifier ∷ number 4 5 ∷ descriptio
 kinds_of word.SpmStart = identifier ∷ number 0 250 ∷ number 0 18446744073709551615 ∷ []
 kinds_of word.SpmStop = []
 kinds_of word.AddDomain = identifier ∷ identifier ∷ number 4 5 ∷ description ∷ []
-kinds_of word.Create = identifier ∷ identifier ∷ set_identifier ∷ set_identifier ∷ layout ∷ capacity 512 ∷ description ∷ []
-kinds_of word.Snapshot = identifier ∷ identifier ∷ set_identifier ∷ set_identifier ∷ set_identifier ∷ capacity 0 ∷ description ∷ []
+kinds_of word.Create = identifier ∷ identifier ∷ set_identifier ∷ set_identifier ∷ layout ∷ number 0 18446744073709551615 ∷ description ∷ []
+kinds_of word.Snapshot = identifier ∷ identifier ∷ set_identifier ∷ set_identifier ∷ set_identifier ∷ number 0 18446744073709551615 ∷ description ∷ []
 kinds_of word.DeleteVolume = identifier ∷ identifier ∷ set_identifier ∷ set_identifier ∷ []
 kinds_of word.DeleteImage = identifier ∷ identifier ∷ set_identifier ∷ []
 kinds_of word.Copy = identifier ∷ identifier ∷ set_identifier ∷ set_identifier ∷ identifier ∷ set_identifier ∷ set_identifier ∷ layout ∷ []
-kinds_of word.Extend = identifier ∷ identifier ∷ set_identifier ∷ set_identifier ∷ capacity 512 ∷ []
+kinds_of word.Extend = identifier ∷ identifier ∷ set_identifier ∷ set_identifier ∷ number 0 18446744073709551615 ∷ []
 kinds_of word.Describe = identifier ∷ identifier ∷ set_identifier ∷ set_identifier ∷ description ∷ []
 kinds_of word.Open = identifier ∷ set_identifier ∷ []
 kinds_of word.Close = identifier ∷ set_identifier ∷ []

@@ -2,7 +2,7 @@
 ghost use Rattle.std.specs.Prelude.{◌+◌, ◌<◌, ◌^◌, length};
 
 use crate::values::{
-    read_capacity, read_description, read_id, read_layout, read_number, read_set_id,
+    read_description, read_id, read_layout, read_number, read_set_id,
 };
 use crate::{decode, take_word};
 use sd_names::{AllocKind, Format, HostId, Id};
@@ -19,7 +19,7 @@ pub struct Arguments<'a> {
 
 impl<'a> Arguments<'a> {
     ghost use Rattle.std.specs.Prelude.{◌≡◌, ◌≤◌, [], ◌∷◌, IfSome};
-    ghost use Rattle.script_lines.specs.Argument.{identifier, set_identifier, number, capacity, description, data_text, layout, id_value, number_value, bytes_value, layout_value};
+    ghost use Rattle.script_lines.specs.Argument.{identifier, set_identifier, number, description, data_text, layout, id_value, number_value, bytes_value, layout_value};
     ghost use Rattle.script_lines.specs.Reads.{Reads};
 
     /// The next argument, an identifier. Where it isn't one, the reader stays at its place, as after each `None`.
@@ -49,16 +49,6 @@ impl<'a> Arguments<'a> {
     {
         let (word, rest) = take_word(self.rest)?;
         let value = read_number(word, low, high)?;
-        self.advance(rest);
-        Some(value)
-    }
-
-    /// The next argument, a capacity in bytes, a multiple of 512 from `low` to 1 TiB.
-    pub fn capacity(&mut self, low: u64) -> Option<u64>
-        ensures reads { Reads (capacity low ∷ []) (λ n. number_value n ∷ []) self.old self.new result }
-    {
-        let (word, rest) = take_word(self.rest)?;
-        let value = read_capacity(word, low)?;
         self.advance(rest);
         Some(value)
     }

@@ -1,13 +1,10 @@
 // The value of one argument, from its word.
 ghost use Rattle.std.specs.Prelude.{◌≡◌, ◌≤◌, IfSome};
 ghost use Rattle.std.specs.Option.{option_map};
-ghost use Rattle.script_lines.specs.Argument.{layout_value, id_of, set_id_of, number_in, capacity_in, description_of, layout_of};
+ghost use Rattle.script_lines.specs.Argument.{layout_value, id_of, set_id_of, number_in, description_of, layout_of};
 
 use crate::number;
 use sd_names::{AllocKind, Format, Id};
-
-/// The most bytes that a volume may hold: 1 TiB.
-const MAX_CAPACITY: u64 = 1099511627776;
 
 /// An identifier, in either case.
 pub fn read_id(word: &[u8]) -> Option<Id>
@@ -24,7 +21,7 @@ pub fn read_set_id(word: &[u8]) -> Option<Id>
     ensures { option_map (λ id. id.0) result ≡ set_id_of word.now }
 {
     let id = read_id(word)?;
-    if id.0 == [0; 16] { None } else { Some(id) }
+    if id.is_zero() { None } else { Some(id) }
 }
 
 /// A number from `low` to `high`.
@@ -38,15 +35,6 @@ pub fn read_number(word: &[u8], low: u64, high: u64) -> Option<u64>
         return None;
     }
     Some(value)
-}
-
-/// A capacity in bytes, a multiple of 512 from `low` to 1 TiB.
-#[tactic(auto, unfolding(crate::specs::Argument::capacity_in))]
-pub fn read_capacity(word: &[u8], low: u64) -> Option<u64>
-    ensures { result ≡ capacity_in low word.now }
-{
-    let value = read_number(word, low, MAX_CAPACITY)?;
-    if value % 512 == 0 { Some(value) } else { None }
 }
 
 /// A description of 1 to 200 bytes; `-` is the empty one.

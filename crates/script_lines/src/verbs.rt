@@ -101,7 +101,7 @@ fn create<'a>(args: &mut Arguments<'a>) -> Option<Verb<'a>>
     let task = args.id()?;
     let (sd, image, v) = args.volume()?;
     let (format, kind) = args.layout()?;
-    let capacity = args.capacity(512)?;
+    let capacity = args.number(0, 18446744073709551615)?;
     let text = args.description()?;
     Some(Verb::Create {
         task,
@@ -122,7 +122,7 @@ fn snapshot<'a>(args: &mut Arguments<'a>) -> Option<Verb<'a>>
     let task = args.id()?;
     let (sd, image, v) = args.volume()?;
     let w = args.set_id()?;
-    let capacity = args.capacity(0)?;
+    let capacity = args.number(0, 18446744073709551615)?;
     let text = args.description()?;
     Some(Verb::Snapshot {
         task,
@@ -180,7 +180,7 @@ fn extend<'a>(args: &mut Arguments<'a>) -> Option<Verb<'a>>
 {
     let task = args.id()?;
     let (sd, image, v) = args.volume()?;
-    let capacity = args.capacity(512)?;
+    let capacity = args.number(0, 18446744073709551615)?;
     Some(Verb::Extend {
         task,
         sd,
