@@ -7,8 +7,8 @@ use sd_names::HostId;
 use std::test::Fail;
 
 // The calls of an opening: the file's length, its head, the refcount block's place, the counts, 8 sectors of the refcount
-// table, and two times an L1 entry and the 8 sectors of its table.
-const CALLS: u64 = 30;
+// table, the sector of the L1 table, and two times the 8 sectors of a table that it names.
+const CALLS: u64 = 29;
 
 #[test]
 fn a_fault_in_each_call(rt: HostRuntime) -> Result<(), Fail> {
