@@ -1,9 +1,8 @@
 -- What was objected to: it ends the opening with the layer's first fault, or asks for the count of a cluster.
-use Rattle.std.proofs.Common.{◌≡◌, ℕ, ◌+◌, ◌%◌, ◌^◌, ◌<◌, ◌≤◌, List, Option, Some, None, Ok, refl, sym, ◌∙◌, subst, arith}
+use Rattle.std.proofs.Common.{◌≡◌, ℕ, ◌%◌, ◌^◌, ◌<◌, ◌≤◌, List, Option, Some, None, Ok, refl, sym, ◌∙◌, subst, arith}
 use Rattle.std.specs.Prelude.{MatchResult}
 use Rattle.sd_names.specs.declared.fault.LayerFault.{LayerFault}
 use Rattle.sd_names.specs.Turn.{MatchTurn}
-use Rattle.sd_names.specs.declared.turn.Turn.{Turn}
 use Rattle.shared_disk.specs.Content.{Content}
 use Rattle.qcow_format.specs.declared.header.Header.{Header}
 use Rattle.image_model.specs.File.{File, file_of}

@@ -1,6 +1,5 @@
 -- The looking up of a cluster, and what it finds.
-use Rattle.std.specs.Prelude.{◌≡◌, ℕ, ◌/◌, ◌<◌, nat_lt, ◌&&◌, Bool, true, false, List, Option, Some, None, Result, Ok, Err}
-use Rattle.sd_names.specs.declared.fault.LayerFault.{LayerFault}
+use Rattle.std.specs.Prelude.{◌≡◌, ℕ, ◌/◌, ◌<◌, List, Option, Some, None, Ok}
 use Rattle.sd_names.specs.declared.refusal.Refusal.{Refusal}
 use Rattle.sd_names.specs.declared.refusal.Refusal.TheVariants.{DiskFault}
 use Rattle.sd_names.specs.declared.turn.Turn.{Turn}

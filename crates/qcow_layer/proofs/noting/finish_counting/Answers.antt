@@ -1,5 +1,4 @@
 use Rattle.std.proofs.Common.{subst, sym}
-use Rattle.sd_names.specs.Turn.{MatchTurn}
 use Rattle.qcow_layer.specs.Left.{Falls}
 use Rattle.qcow_layer.specs.Stages.{Steps}
 use Rattle.qcow_layer.specs.declared.work.Stage.TheVariants.{Counting}

@@ -1,5 +1,4 @@
-use Rattle.std.proofs.Common.{◌≡◌, ◌*◌, ◌%◌, ◌<◌, Some, None, Ok, Err, subst, arith}
-use Rattle.qcow_format.specs.Bytes.{number}
+use Rattle.std.proofs.Common.{◌≡◌, ◌<◌, Some, None, Ok, Err, subst, arith}
 use Rattle.qcow_layer.specs.Positions.{PassesL1, PassesRow, row_end}
 use Rattle.qcow_layer.proofs.Passing.{row_found, row_next, row_objected}
 use Rattle.qcow_layer.proofs.tables.pass_l1.Goals as goal

@@ -1,9 +1,9 @@
-use Rattle.std.proofs.Common.{◌+◌, ◌*◌, ◌/◌, ◌<◌, Some, None, Ok, min, refl, subst, sym, arith}
+use Rattle.std.proofs.Common.{◌+◌, ◌*◌, ◌/◌, ◌<◌, Ok, refl, subst, sym}
 use Rattle.qcow_format.specs.declared.header.Header.{Header}
 use Rattle.qcow_layer.specs.Positions.{PassesRow, row_end}
 use Rattle.qcow_layer.specs.Stages.{PassesOn}
 use Rattle.qcow_layer.proofs.Objects.{before_keeping}
-use Rattle.qcow_layer.proofs.L1Walks.{later_table, min_below, objected_from, row_ends, row_objected, row_tables}
+use Rattle.qcow_layer.proofs.L1Walks.{later_table, min_below, row_ends, row_objected, row_tables}
 use Rattle.qcow_layer.proofs.walking.pass_row.Goals as goal
 
 pub returns-in-Err-clause-next : goal.returns-in-Err-clause-next

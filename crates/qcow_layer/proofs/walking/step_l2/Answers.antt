@@ -1,4 +1,4 @@
-use Rattle.std.proofs.Common.{ℕ, ◌≡◌, ◌/◌, ◌^◌, ◌<◌, ◌≤◌, Some, None, subst, sym, arith}
+use Rattle.std.proofs.Common.{ℕ, ◌≡◌, ◌/◌, ◌^◌, ◌<◌, Some, None, subst, sym, arith}
 use Rattle.qcow_layer.specs.Left.{Falls}
 use Rattle.qcow_layer.specs.Stages.{Steps}
 use Rattle.qcow_layer.specs.Positions.{PassesEntries}
