@@ -24,7 +24,7 @@ pub answer_runs : (n : ℕ) (s t : State) (line reply : List ℕ) (outcome : Lin
     → ((answer : Answer) × Answers s (asked_of line) answer t × (outcome ≡ outcome_for answer) × (reply ≡ reply_text n answer)) → RunsLine n s line outcome reply t
 answer_runs n s t line reply outcome loud h = rw (sym loud) h
 
-pub loud_outcome : (line : List ℕ) (outcome : LineOutcome) → false ≡ is_silent line → (outcome ≡ outcome.Done) ⊎ (outcome ≡ outcome.Refused) → IsOutcome line outcome
+pub loud_outcome : (line : List ℕ) (came : LineOutcome) → false ≡ is_silent line → (came ≡ outcome.Done) ⊎ (came ≡ outcome.Refused) → IsOutcome line came
 loud_outcome line outcome loud h = rw (sym loud) h
 
 pub silent_outcome : (line : List ℕ) → true ≡ is_silent line → IsOutcome line outcome.Silent

@@ -14,9 +14,9 @@ outcome_for (refused refusal) = outcome.Refused
 
 -- From a state, the line of a number has this outcome and this reply, and leaves that state: a silent line changes nothing.
 abbrev pub RunsLine : ℕ → State → List ℕ → LineOutcome → List ℕ → State → Type 0
-RunsLine number s line outcome reply t = MatchBool (is_silent line)
-    ((outcome ≡ outcome.Silent) × (t ≡ s))
-    ((answer : Answer) × Answers s (asked_of line) answer t × (outcome ≡ outcome_for answer) × (reply ≡ reply_text number answer))
+RunsLine number s line came reply t = MatchBool (is_silent line)
+    ((came ≡ outcome.Silent) × (t ≡ s))
+    ((answer : Answer) × Answers s (asked_of line) answer t × (came ≡ outcome_for answer) × (reply ≡ reply_text number answer))
 
 -- the flat machine, and the reply that it gave last
 pub record Flat : Type 0 where
@@ -32,7 +32,7 @@ FlatSays before _ number line outcome after _ = RunsLine number before.state lin
 
 -- a line is silent where it is empty or a remark, and else done or refused
 abbrev pub IsOutcome : List ℕ → LineOutcome → Type 0
-IsOutcome line outcome = MatchBool (is_silent line) (outcome ≡ outcome.Silent) ((outcome ≡ outcome.Done) ⊎ (outcome ≡ outcome.Refused))
+IsOutcome line came = MatchBool (is_silent line) (came ≡ outcome.Silent) ((came ≡ outcome.Done) ⊎ (came ≡ outcome.Refused))
 
 -- how any machine of a session runs a line: nothing is said of the reply
 abbrev pub SomeSays : List ℕ → Unit {0} → ℕ → List ℕ → LineOutcome → List ℕ → Unit {0} → Type 0

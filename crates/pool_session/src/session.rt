@@ -7,6 +7,7 @@ ghost use Rattle.pool_session.specs.RunsAt.{RunsAt};
 use crate::command::Command;
 use crate::machine::Machine;
 use crate::reply::REPLY_ROOM;
+use crate::stage::Stage;
 use script_loop::{LineOutcome, LineRunner};
 use sd_names::NoMemory;
 use shared_disk::SharedDisk;
