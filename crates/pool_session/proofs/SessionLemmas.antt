@@ -1,5 +1,5 @@
 -- A session's lines, as the flat machine runs them.
-use Rattle.std.proofs.Common.{◌≡◌, ℕ, Bool, false, true, ◌||◌, ◌⊎◌, List, [], take, MatchBool, Option, Some, None, refl, sym, ap, ◌∙◌, subst, inl, inr}
+use Rattle.std.proofs.Common.{◌≡◌, ℕ, Bool, false, true, ◌⊎◌, List, MatchBool, Option, Some, refl, sym, ap, subst, inl, inr}
 use Rattle.script_loop.specs.Ends.{Ends}
 use Rattle.script_loop.specs.declared.runner.LineOutcome.{LineOutcome}
 use Rattle.script_loop.specs.declared.runner.LineOutcome.TheVariants as outcome
@@ -14,7 +14,6 @@ use Rattle.pool_session.specs.Run.{RunsLine, Flat, FlatSays, flat_reply, SomeSay
 use Rattle.pool_session.specs.RunsAt.{Reached, state_at}
 use Rattle.pool_session.specs.Session.{SessionSays, kept_reply}
 use Rattle.pool_session.specs.declared.session.Session.{Session}
-use Rattle.pool_session.specs.declared.stage.Stage.{Stage}
 
 -- something that holds, holds where a script was run
 pub if_ran : (status : Status) (P : Type 0) → P → IfRan status P

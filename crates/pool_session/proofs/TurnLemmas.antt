@@ -9,8 +9,8 @@ use Rattle.shared_disk.specs.Content.{Content}
 use Rattle.shared_disk.specs.declared.disk.DiskAnswer.TheVariants.{NoFile, Exists, OutOfFile, NotEmpty, Failed}
 use Rattle.raw_layer.specs.Raw.{WriteSteps, WritesPart, SyncsFile, AsksLength}
 use Rattle.raw_layer.specs.declared.write.RawWrite.{RawWrite}
-use Rattle.raw_layer.specs.declared.write.State.{State}
-use Rattle.raw_layer.specs.declared.write.State.TheVariants.{Begun, Fits, Written}
+use Rattle.raw_layer.specs.declared.write.Stage.{Stage}
+use Rattle.raw_layer.specs.declared.write.Stage.TheVariants.{Begun, Fits, Written}
 use Rattle.pool_session.specs.declared.image.Image.{Image}
 use Rattle.pool_session.specs.Image.{HoldsFlat, SeenFlat, Mixed, laid, file_of}
 use Rattle.pool_session.proofs.WriteLemmas.{HoldsWrite, Knows, same_file, after_write, after_sync, unchanged_seen, written_seen, partly_seen}
@@ -30,8 +30,8 @@ never_out f_size at count capacity size aligned whole within out = omega arith
 
 module _ (image : Image) (flat : ℕ → List ℕ) (w : RawWrite) (at faults : ℕ) (part : List ℕ) (d e : Content) (from : w.at ≡ at) (place : w.place ≡ file_of image)
     (aligned : at % 512 ≡ 0) (whole : length part % 512 ≡ 0) (within : at + length part ≤ image.capacity) where
-  part_more : (next : RawWrite) → HoldsFlat image flat d → WritesPart w 1 faults part (More next) d e → (next.state ≡ Written) × HoldsWrite image (at / 512) part flat e × (next.at ≡ w.at) × (next.place ≡ w.place)
-  part_more next holds (Ok t, is, goes) = (goes.now_in, after_write image flat w at faults part d e from place holds is, goes.from, goes.place)
+  part_more : (next : RawWrite) → HoldsFlat image flat d → WritesPart w 1 faults part (More next) d e → (next.stage ≡ Written) × HoldsWrite image (at / 512) part flat e × (next.at ≡ w.at) × (next.place ≡ w.place)
+  part_more next holds (Ok t, is, goes) = (goes.now_in, after_write image flat w at faults part d e from place holds is, goes.same.from, goes.same.place)
   part_more next holds (Err a, is, ends) = absurd (cc)
 
   part_done : WritesPart w 1 faults part (Done tt) d e → ⊥
@@ -72,23 +72,23 @@ module _ (image : Image) (flat : ℕ → List ℕ) (w : RawWrite) (at faults : �
   begun known turn is steps = chosen (WritesPart w 1 faults part turn d e) (AsksLength w faults (length part) turn d e) (w.at + length part) known (omega arith) steps
 
   -- what is known next
-  pub more_knows : (s : State) (next : RawWrite) → Knows s image (at / 512) part flat d → WriteSteps s w 1 faults part (More next) d e → Knows next.state image (at / 512) part flat e
+  pub more_knows : (s : Stage) (next : RawWrite) → Knows s image (at / 512) part flat d → WriteSteps s w 1 faults part (More next) d e → Knows next.stage image (at / 512) part flat e
   more_knows (Begun known) next knows steps =
       let h = part_more next knows.1 (begun known (More next) knows.0 steps) in
-      subst (λ (s : State). Knows s image (at / 512) part flat e) (sym h.0) h.1
+      subst (λ (s : Stage). Knows s image (at / 512) part flat e) (sym h.0) h.1
   more_knows Fits next knows steps =
       let h = part_more next knows steps in
-      subst (λ (s : State). Knows s image (at / 512) part flat e) (sym h.0) h.1
+      subst (λ (s : Stage). Knows s image (at / 512) part flat e) (sym h.0) h.1
   more_knows Written next knows steps = absurd (sync_more next steps)
 
   -- a write that is done
-  pub done_holds : (s : State) → Knows s image (at / 512) part flat d → WriteSteps s w 1 faults part (Done tt) d e → HoldsFlat image (laid (at / 512) part flat) e
+  pub done_holds : (s : Stage) → Knows s image (at / 512) part flat d → WriteSteps s w 1 faults part (Done tt) d e → HoldsFlat image (laid (at / 512) part flat) e
   done_holds (Begun known) knows steps = absurd (part_done (begun known (Done tt) knows.0 steps))
   done_holds Fits knows steps = absurd (part_done steps)
   done_holds Written knows steps = sync_done knows steps
 
   -- a write that a fault has cut
-  pub ended_mixed : (s : State) (refusal : Refusal) → Knows s image (at / 512) part flat d → WriteSteps s w 1 faults part (Ended tt refusal) d e
+  pub ended_mixed : (s : Stage) (refusal : Refusal) → Knows s image (at / 512) part flat d → WriteSteps s w 1 faults part (Ended tt refusal) d e
       → (refusal ≡ DiskFault faults) × ((mixed : ℕ → List ℕ) × Mixed (at / 512) part flat mixed × SeenFlat image mixed e)
   ended_mixed (Begun known) refusal knows steps = part_ended refusal knows.1 (begun known (Ended tt refusal) knows.0 steps)
   ended_mixed Fits refusal knows steps = part_ended refusal knows steps

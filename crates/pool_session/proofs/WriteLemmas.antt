@@ -7,8 +7,8 @@ use Rattle.sd_names.specs.declared.place.Place.{Place}
 use Rattle.shared_disk.specs.Content.{Content, File, own_of, without, seen, sector_of}
 use Rattle.shared_disk.specs.Calls.{wrote, synced, sectors_in, WriteAt, Syncs, IsPut}
 use Rattle.raw_layer.specs.declared.write.RawWrite.{RawWrite}
-use Rattle.raw_layer.specs.declared.write.State.{State}
-use Rattle.raw_layer.specs.declared.write.State.TheVariants.{Begun, Fits, Written}
+use Rattle.raw_layer.specs.declared.write.Stage.{Stage}
+use Rattle.raw_layer.specs.declared.write.Stage.TheVariants.{Begun, Fits, Written}
 use Rattle.pool_session.specs.declared.image.Image.{Image}
 use Rattle.pool_session.specs.Image.{HoldsFlat, SeenFlat, Mixed, laid, file_of}
 use Rattle.shared_disk.proofs.OwnWrites.{own_of-writes_hit, own_of-writes_miss, without_writes}
@@ -21,8 +21,8 @@ pub record HoldsWrite (image : Image) (at : ℕ) (part : List ℕ) (flat : ℕ �
   pub synced : file.loose ≡ []
   pub sectors : (k : ℕ) → file.stable k ≡ flat k
 
--- by the state of the write
-abbrev pub Knows : State → Image → ℕ → List ℕ → (ℕ → List ℕ) → Content → Type 0
+-- by the stage of the write
+abbrev pub Knows : Stage → Image → ℕ → List ℕ → (ℕ → List ℕ) → Content → Type 0
 Knows (Begun known) image at part flat e = (known ≡ image.capacity) × HoldsFlat image flat e
 Knows Fits image at part flat e = HoldsFlat image flat e
 Knows Written image at part flat e = HoldsWrite image at part flat e

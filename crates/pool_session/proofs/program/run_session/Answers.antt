@@ -1,4 +1,4 @@
-use Rattle.std.proofs.Common.{◌≡◌, ℕ, List, [], false, sym, ap, subst}
+use Rattle.std.proofs.Common.{[], false, sym, ap, subst}
 use Rattle.script_loop.specs.Ends.{Ends}
 use Rattle.script_loop.specs.declared.status.Status.{Status}
 use Rattle.shared_disk.specs.Content.{zero_sector}

@@ -1,4 +1,4 @@
-use Rattle.std.proofs.Common.{◌≡◌, ℕ, List, Option, Some, map, sym, subst, rules}
+use Rattle.std.proofs.Common.{◌≡◌, Option, Some, map, sym, subst, rules}
 use Rattle.command_words.specs.Asked.{Asked, asked_by}
 use Rattle.command_words.specs.Words.{asked}
 use Rattle.pool_session.specs.Program.{Gives}
