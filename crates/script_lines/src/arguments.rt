@@ -1,9 +1,7 @@
 // The arguments of a verb, read one after the other.
 ghost use Rattle.std.specs.Prelude.{◌+◌, ◌<◌, ◌^◌, length};
 
-use crate::values::{
-    read_description, read_id, read_layout, read_number, read_set_id,
-};
+use crate::values::{read_description, read_id, read_layout, read_number, read_set_id};
 use crate::{decode, take_word};
 use sd_names::{AllocKind, Format, HostId, Id};
 
