@@ -1,5 +1,5 @@
 use super::*;
-use sd_names::Id;
+use sd_names::{Id, Key};
 use std::alloc::{AllocError, Global};
 
 // What the lines of a text are, as text: a pair as `<key|value>`, a line without `=` as `!` and its number,
@@ -87,6 +87,38 @@ fn numbers(rt: HostRuntime) {
     ];
     for (value, want) in cases {
         assert_eq!(rt; read_number(value.as_bytes()), want);
+    }
+}
+
+// A text's first fault where SIZE and GEN have to be there, its SIZE, and its DESCRIPTION.
+#[test]
+fn keys(rt: HostRuntime) {
+    let cases = [
+        ("GEN=1\nSIZE=2\nSIZE=3\n", None, Some("3"), Some("")),
+        (
+            "GEN=1\nDESCRIPTION=a b\n",
+            Some(TextFault::MissingKey(Key::Size)),
+            None,
+            Some("a b"),
+        ),
+        (
+            "SIZE=\n\nGEN\n",
+            Some(TextFault::BadLine(3)),
+            Some(""),
+            Some(""),
+        ),
+        (
+            "EOF\nGEN=1\nSIZE=2\n",
+            Some(TextFault::MissingKey(Key::Size)),
+            None,
+            Some(""),
+        ),
+    ];
+    for (text, fault, size, description_text) in cases {
+        let text = text.as_bytes();
+        assert_eq!(rt; shape_fault(text, &[Key::Size, Key::Gen]), fault);
+        assert!(rt; needed(text, Key::Size).ok() == size.map(|value| value.as_bytes()));
+        assert!(rt; description(text).ok() == description_text.map(|value| value.as_bytes()));
     }
 }
 
