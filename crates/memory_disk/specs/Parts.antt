@@ -33,6 +33,13 @@ limits_of_memory m = Some (limits_with (failing_of_memory m) m.store)
 abbrev pub picks_of : {F : Type 0} → InMemory F → List Pick
 picks_of m = to_come m.picks
 
+-- how many calls were made, and how many of them failed
+abbrev pub calls_of : {F : Type 0} → InMemory F → ℕ
+calls_of m = m.calls
+
+abbrev pub faults_of : {F : Type 0} → InMemory F → ℕ
+faults_of m = m.faults
+
 -- the second memory disk is the first, but for what it holds and its room
 pub record IsOnlyStore (m n : InMemory ListedCalls) : Type 0 where
   pub failing : n.failing ≡ m.failing

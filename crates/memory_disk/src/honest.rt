@@ -13,7 +13,7 @@ use std::alloc::Global;
 pub type Honest = InMemory<NoCalls>;
 
 impl InMemory<NoCalls> {
-    ghost use Rattle.memory_disk.specs.Parts.{content_of_honest, limits_of_honest, picks_of, room_of_honest, units_of_honest};
+    ghost use Rattle.memory_disk.specs.Parts.{calls_of, faults_of, content_of_honest, limits_of_honest, picks_of, room_of_honest, units_of_honest};
 
     /// An empty folder with room for so many units.
     pub fn new(alloc: Global, picks: Vec<Pick>, room: u64) -> Result<Honest, NoMemory>
@@ -21,6 +21,8 @@ impl InMemory<NoCalls> {
         ensures room { IfOk result (λ h. room_of_honest h ≡ room) }
         ensures picks { IfOk result (λ h. picks_of h ≡ picks.items) }
         ensures used { IfOk result (λ h. units_of_honest h ≡ 0) }
+        ensures calls { IfOk result (λ h. calls_of h ≡ 0) }
+        ensures faults { IfOk result (λ h. faults_of h ≡ 0) }
         ensures limits { IfOk result (λ h. limits_of_honest h ≡ Some (record { units = 0; room = room; failing = [] })) }
     {
         let turns = Picks::new(picks);

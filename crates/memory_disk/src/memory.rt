@@ -15,7 +15,7 @@ use std::alloc::Global;
 pub type Memory = InMemory<ListedCalls>;
 
 impl InMemory<ListedCalls> {
-    ghost use Rattle.memory_disk.specs.Parts.{IsOnlyStore, content_of_memory, failing_of_memory, limits_of_memory, picks_of, room_of_memory, units_of_memory};
+    ghost use Rattle.memory_disk.specs.Parts.{calls_of, faults_of, IsOnlyStore, content_of_memory, failing_of_memory, limits_of_memory, picks_of, room_of_memory, units_of_memory};
 
     /// An empty folder with room for so many units. The calls with the numbers in `failing` fail; the first call has
     /// the number 0.
@@ -29,6 +29,8 @@ impl InMemory<ListedCalls> {
         ensures room { IfOk result (λ m. room_of_memory m ≡ room) }
         ensures picks { IfOk result (λ m. picks_of m ≡ picks.items) }
         ensures failing { IfOk result (λ m. failing_of_memory m ≡ failing.items) }
+        ensures calls { IfOk result (λ m. calls_of m ≡ 0) }
+        ensures faults { IfOk result (λ m. faults_of m ≡ 0) }
         ensures limits { IfOk result (λ m. limits_of_memory m ≡ Some (record { units = 0; room = room; failing = failing.items })) }
     {
         let turns = Picks::new(picks);

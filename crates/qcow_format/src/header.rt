@@ -3,8 +3,10 @@ ghost use Rattle.std.specs.Prelude.{◌≡◌, ℕ, ◌^◌, ◌<◌, ◌≤◌,
 ghost use Rattle.std.specs.Option.{SomeIff};
 ghost use Rattle.qcow_format.specs.Header.{fields_of_version_2, fields_of, field_fault, name_of, mapped, head_size, shape_of, with_format, header_of};
 ghost use Rattle.qcow_format.specs.Written.{HasRoom, IsHeader, written};
+ghost use Rattle.qcow_format.specs.Numbers.{magic, backing_format};
 
 use crate::bytes::{u32_at, u64_at};
+use crate::extension::BACKING_FORMAT;
 use crate::shape::{cluster_bytes, format_of_head};
 use crate::writing::{write_fields, write_format};
 use sd_names::{Format, LayerFault};
@@ -252,4 +254,10 @@ pub fn headers_read_again()
     ensures { (h : Header) (first rest : List ℕ) (found : Option (ℕ × Format)) → IsHeader h → length first ≡ 512
         → shape_of (take (head_size h.cluster_bits) (written h first ++ rest)) h ≡ Ok found → with_format h found ≡ h
         → header_of (written h first ++ rest) ≡ Ok h }
+{}
+
+/// The numbers by which a file and a backing format are known are those of the standard.
+pub fn numbers_of_the_standard()
+    ensures magic { MAGIC ≡ magic }
+    ensures backing_format { BACKING_FORMAT ≡ backing_format }
 {}

@@ -19,9 +19,3 @@ refusal_of Failed faults = DiskFault faults
 abbrev pub IsRisen : ℕ → ℕ → Refusal → Type 0
 IsRisen before after (DiskFault n) = Rose before after × (n ≡ after)
 IsRisen before after _ = Unit {0}
-
--- a refusal that stands for an answer of the disk: such a fault, or an absence
-abbrev pub IsDiskRefusal : ℕ → ℕ → Refusal → Type 0
-IsDiskRefusal before after (DiskFault n) = IsRisen before after (DiskFault n)
-IsDiskRefusal before after (Vanished a) = Unit {0}
-IsDiskRefusal before after _ = ⊥

@@ -1,6 +1,6 @@
 -- The text beside a volume, whole: its lines in the order in which they are written.
 use Rattle.std.specs.Prelude.{ℕ, ◌/◌, ◌≤◌, ◌==◌, Bool, true, false, List, [], ◌++◌, length, codes, decimal}
-use Rattle.kv_text.specs.Text.{line}
+use Rattle.kv_text.specs.Text.{IsOneLine, line}
 use Rattle.sd_names.specs.Key.{key_name}
 use Rattle.sd_names.specs.Id.{id_text}
 use Rattle.sd_names.specs.declared.fault.Key.{Key}
@@ -79,4 +79,6 @@ volume_text version r = first_lines (version == 5) r ++ last_lines (version == 5
 -- a record whose description and disk type may stand in a text: the text then fits 8,192 bytes
 pub record HasShortTexts (r : VolumeRecord) : Type 0 where
   pub description : length r.description ≤ 4096
+  pub description_line : IsOneLine r.description
   pub disk_type : length r.disk_type ≤ 16
+  pub disk_type_line : IsOneLine r.disk_type

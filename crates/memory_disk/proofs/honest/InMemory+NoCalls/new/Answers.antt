@@ -8,6 +8,8 @@ returns-in-Ok c = record {
   empty = (held c.in-Ok.store, refl, is_empty _ _ c.in-Ok.store.stable c.in-Ok.store.log.items c.in-Ok.ensures.dirs c.in-Ok.ensures.files);
   room = c.in-Ok.ensures.room;
   picks = c.new-turns.ensures;
+  calls = refl;
+  faults = refl;
   used = c.in-Ok.ensures.units;
   limits = λ i. Some (record { units = c.in-Ok.ensures.units i; room = c.in-Ok.ensures.room i; failing = [] });
 }
