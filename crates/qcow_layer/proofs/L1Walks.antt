@@ -12,7 +12,8 @@ use Rattle.shared_disk.specs.Calls.{IsSame}
 use Rattle.qcow_format.specs.Bytes.{number}
 use Rattle.image_model.specs.File.{File, file_of, sector_in}
 use Rattle.image_model.specs.Layer.{Tables, cluster_size, entries, l1_clusters, l1_at}
-use Rattle.image_model.specs.Soundness.{Item, item, IsClean}
+use Rattle.image_model.specs.Room.{Named}
+use Rattle.image_model.specs.Soundness.{Item, item, IsClean, NamedBefore}
 use Rattle.qcow_layer.specs.Checked.{Checked}
 use Rattle.qcow_layer.specs.Marks.{used_in}
 use Rattle.qcow_layer.specs.Positions.{HasRow, PassesRow, ReachedRow, l1_position, row_end}
@@ -46,6 +47,17 @@ all_clean t capacity i used past known n = go (cases_lt n (l1_position t i))
         let later : t.header.l1_size * (1 + entries t) ≤ i * (1 + entries t) = mul-le-mul_right (1 + entries t) past in
         clean_nothing t capacity n (item_past t capacity n (omega (arith, le, later)))
 
+-- what is named anywhere is named before the end of the table
+named_within : (t : Tables) (capacity i c : ℕ) → t.header.l1_size ≤ i → Named t capacity c → NamedBefore t capacity (l1_position t i) (c * cluster_size t)
+named_within t capacity i c past name = go (cases_lt name.0 (l1_position t i))
+  where
+    go : (name.0 < l1_position t i) ⊎ (l1_position t i ≤ name.0) → NamedBefore t capacity (l1_position t i) (c * cluster_size t)
+    go (inl lt) = (name.0, lt, name.1)
+    go (inr le) =
+        let later : t.header.l1_size * (1 + entries t) ≤ i * (1 + entries t) = mul-le-mul_right (1 + entries t) past in
+        let none : None ≡ Some (c * cluster_size t) = sym (ap (λ (x : Item). x.name) (item_past t capacity name.0 (omega (arith, le, later)))) ∙ name.1 in
+        absurd cc
+
 pub l1_end : (target : Target) (host : ℕ) (work : Work) (i : ℕ) (d : Content) → work.header.l1_size ≤ i → Steps target host (L1 work i) (Done work) d d
 l1_end target host work i d past = record {
   same = refl;
@@ -57,6 +69,8 @@ l1_end target host work i d past = record {
             (all_clean (tables_of work file) target.capacity i (used_in (tables_of work file) work.marks) past knows.holds.clean);
         header = knows.holds.header;
         fits = knows.holds.fits;
+        named = λ c e. let before = knows.holds.clean.marked c e in (before.0, before.2);
+        noted = λ c name. knows.holds.clean.unmarked c (named_within (tables_of work file) target.capacity i c past name);
       };
 }
 

@@ -4,7 +4,7 @@ use Rattle.std.specs.Prelude.{MatchResult, if◌then◌else◌}
 use Rattle.std.proofs.lemmas.Bool.Decides.{nat_tests}
 use Rattle.sd_names.specs.declared.fault.LayerFault.{LayerFault}
 use Rattle.sd_names.specs.declared.fault.LayerFault.TheVariants.{Short, Size}
-use Rattle.sd_names.specs.declared.refusal.Refusal.TheVariants.{LayerRefused}
+use Rattle.sd_names.specs.declared.refusal.Refusal.TheVariants.{LayerRefused, OutOfMemory}
 use Rattle.sd_names.specs.declared.turn.Turn.TheVariants.{More, Ended}
 use Rattle.shared_disk.specs.Content.{Content, File}
 use Rattle.shared_disk.specs.Calls.{IsSame, HasLength}
@@ -129,6 +129,12 @@ header_small target length header lt parent host count sectors d seen is long e 
   refl,
   header_fault (file_of count sectors) target.capacity (Size header.size)
       (header_is count target.capacity sectors header (subst (λ n. 512 ≤ n) is long) e ∙ ap (λ (b : Bool). if b then Err (Size header.size) else Ok header) (less_test header.size target.capacity lt)),
+)
+
+pub no_memory : (target : Target) (length : ℕ) (header : Header) → target.capacity ≤ header.size → (parent : Option Id) → BeginsCounting target length header parent (Ended tt OutOfMemory)
+no_memory target length header fits parent host count sectors d seen is long e named = (
+  header,
+  header_is count target.capacity sectors header (subst (λ n. 512 ≤ n) is long) e ∙ ap (λ (b : Bool). if b then Err (Size header.size) else Ok header) (more_test header.size target.capacity fits),
 )
 
 pub header_fine : (target : Target) (length : ℕ) (work : Work) → target.capacity ≤ work.header.size → work.marks.size ≡ length → work.marks.cluster ≡ 2 ^ work.header.cluster_bits

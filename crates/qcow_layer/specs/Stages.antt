@@ -15,6 +15,7 @@ use Rattle.qcow_format.specs.Header.{header_of}
 use Rattle.qcow_format.specs.Name.{backing_id}
 use Rattle.image_model.specs.File.{File, file_of}
 use Rattle.image_model.specs.Layer.{Tables, cluster_size, entries, count_of, block_span, block_place, l1_entry}
+use Rattle.image_model.specs.Room.{Named}
 use Rattle.image_model.specs.Soundness.{layer_header, HasFault, IsSound}
 use Rattle.qcow_layer.specs.Checked.{Checked, IsTaken}
 use Rattle.qcow_layer.specs.Items.{layer_of}
@@ -85,17 +86,21 @@ pub record Knows (target : Target) (host count : ℕ) (sectors : ℕ → List �
   pub seen : IsSeen host target.place count sectors d
   pub holds : StageKnows target.capacity seen.file.size count sectors stage
 
--- A layer that was opened: its file is sound, and its size and its counts are known.
+-- A layer that was opened: its file is sound, its size is known, and the clusters of the file that have a count and aren't
+-- free by its map are exactly those that it names.
 pub record IsOpened (capacity : ℕ) (file : File) (work : Work) : Type 0 where
   pub sound : IsSound file capacity
   pub header : HasHeader capacity file work
   pub fits : MarksFile work.marks (tables_of work file)
+  pub named : (c : ℕ) → used_in (tables_of work file) work.marks c ≡ true → Named (tables_of work file) capacity c
+  pub noted : (c : ℕ) → Named (tables_of work file) capacity c → used_in (tables_of work file) work.marks c ≡ true
 
--- A refusal is the layer's first fault; where the file is there it isn't that it isn't.
+-- A refusal is the layer's first fault, or want of memory where its header is fine. `Vanished` never comes for a file that
+-- is there.
 abbrev pub IsRefused : Target → File → Refusal → Type 0
 IsRefused target file (LayerRefused v fault) = (v ≡ target.volume) × HasFault file target.capacity fault
 IsRefused target file (DiskFault n) = Unit {0}
-IsRefused target file OutOfMemory = Unit {0}
+IsRefused target file OutOfMemory = (h : Header) × (layer_header file target.capacity ≡ Ok h)
 IsRefused target file _ = ⊥
 
 -- what a step leaves where the file is known
