@@ -22,6 +22,7 @@ impl<R: Files<File = File> + RandomSource> Folder<R> {
         ensures answers { IfErr result IsNoFile }
     {
         let found = self.look_at(place)?;
+        self.open.make_room(&found.node)?;
         let kept = self.open.take(&self.rt, self.path.as_str(), place, &found)?;
         Ok((kept, found))
     }

@@ -81,11 +81,11 @@ impl Kept {
         self.node
     }
 
-    /// Whether something was given to it since it was flushed or opened, and no flush of it failed.
-    pub fn is_unflushed(&self) -> bool
-        ensures { IsTrue result ↔ (kept_state self.now ≡ State.Unflushed) }
+    /// How it stands to its medium.
+    pub fn state(&self) -> State
+        ensures { result ≡ kept_state self.now }
     {
-        matches!(self.state, State::Unflushed)
+        self.state
     }
 
     /// Whether a flush of it failed.

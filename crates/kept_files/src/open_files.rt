@@ -1,11 +1,11 @@
 // The files that a disk keeps open.
-ghost use Rattle.std.specs.Prelude.{◌≡◌, ◌<◌, ◌∷◌, ◌++◌, [], vec_len, vec_capacity, IfErr, IfOk, IfSome, OnOk};
+ghost use Rattle.std.specs.Prelude.{◌≡◌, ◌∷◌, ◌++◌, [], IfErr, IfNone, IfOk, IfSome, OnOk};
 ghost use Rattle.kept_files.specs.Answers.{IsNoFile};
 ghost use Rattle.kept_files.specs.Kept.{kept_node, kept_place};
-ghost use Rattle.kept_files.specs.OpenFiles.{HasRoom};
+ghost use Rattle.kept_files.specs.OpenFiles.{ClosesFlushed, HasNone, HasRoom, IsForgotten, IsInStateAt, IsKeptAt, IsTaken, KeepsSame, kept_files};
 
 use crate::flushed::Flush;
-use crate::kept::Kept;
+use crate::kept::{Kept, State};
 use crate::node::{Found, Node};
 use sd_names::{NoMemory, Place};
 use shared_disk::DiskAnswer;
@@ -24,7 +24,9 @@ pub struct OpenFiles {
 
 impl OpenFiles {
     /// No file yet. The room for all of them is taken here.
-    pub fn new(alloc: Global) -> Result<OpenFiles, NoMemory> {
+    pub fn new(alloc: Global) -> Result<OpenFiles, NoMemory>
+        ensures none { IfOk result (λ files. kept_files files ≡ []) }
+    {
         match Vec::with_capacity(alloc, MOST) {
             Ok(kept) => Ok(OpenFiles { kept }),
             Err(_) => Err(NoMemory),
@@ -33,7 +35,8 @@ impl OpenFiles {
 
     // Where a file of the system stands among those that are kept.
     fn find(&self, node: &Node) -> Option<usize>
-        ensures within { IfSome result (λ k. k < vec_len self.now.kept) }
+        ensures found { IfSome result (IsKeptAt node.now (kept_files self.now)) }
+        ensures none { IfNone result (HasNone node.now (kept_files self.now)) }
     {
         for k in 0..self.kept.len() {
             if self.kept[k].node().is(node) {
@@ -48,42 +51,59 @@ impl OpenFiles {
         self.find(node).is_some()
     }
 
-    // The file that wasn't used for longest, of those that may be closed.
-    fn least_recent(&self) -> Option<usize>
-        ensures within { IfSome result (λ k. k < vec_len self.now.kept) }
+    // The file that wasn't used for longest, of those that stand so to their medium.
+    fn least_recent(&self, state: State) -> Option<usize>
+        ensures found { IfSome result (IsInStateAt state (kept_files self.now)) }
     {
         for k in 0..self.kept.len() {
-            if !self.kept[k].has_failed() {
+            if self.kept[k].state() == state {
                 return Some(k);
             }
         }
         None
     }
 
-    // Sees that there is room for one more file. Where there is none, the file that wasn't used for longest is flushed
-    // and closed.
-    fn make_room(&mut self) -> Result<(), DiskAnswer>
+    /// Sees that a file can be taken. Where it isn't kept, all places are taken and no kept file is flushed, the one that
+    /// wasn't used for longest is flushed. All of them stay.
+    pub fn make_room(&mut self, node: &Node) -> Result<(), DiskAnswer>
+        ensures stay { KeepsSame (kept_files self.old) (kept_files self.new) }
+        ensures fault { IfErr result (λ answer. answer ≡ DiskAnswer.Failed) }
+    {
+        if self.has(node)
+            || self.kept.len() < self.kept.capacity()
+            || self.least_recent(State::Flushed).is_some()
+        {
+            return Ok(());
+        }
+        match self.least_recent(State::Unflushed) {
+            Some(least) => {
+                self.kept[least].flush(Flush::All)?;
+                Ok(())
+            }
+            None => Err(DiskAnswer::Failed),
+        }
+    }
+
+    // Where all places are taken, closes the file that wasn't used for longest, of those that are flushed.
+    fn close_one(&mut self) -> Result<(), DiskAnswer>
         ensures room { OnOk result (HasRoom self.new) }
+        ensures closed { ClosesFlushed (kept_files self.old) (kept_files self.new) }
         ensures fault { IfErr result (λ answer. answer ≡ DiskAnswer.Failed) }
     {
         if self.kept.len() < self.kept.capacity() {
             return Ok(());
         }
-        let least = match self.least_recent() {
-            Some(least) => least,
-            None => return Err(DiskAnswer::Failed),
-        };
-        let mut kept = self.kept.remove(least);
-        if kept.is_unflushed() {
-            if let Err(answer) = kept.flush(Flush::All) {
-                self.put_back(kept);
-                return Err(answer);
+        match self.least_recent(State::Flushed) {
+            Some(least) => {
+                drop(self.kept.remove(least));
+                Ok(())
             }
+            None => Err(DiskAnswer::Failed),
         }
-        Ok(())
     }
 
-    /// Takes the file that was found at a path out of those that are kept, or opens it.
+    /// Takes the file that was found at a path out of those that are kept, or opens it where it isn't kept. Where all
+    /// places are taken then, one that is flushed is closed.
     pub fn take<R: Files<File = File>>(
         &mut self,
         rt: &R,
@@ -91,14 +111,17 @@ impl OpenFiles {
         place: &Place,
         found: &Found,
     ) -> Result<Kept, DiskAnswer>
+        ensures taken { IfOk result (IsTaken found.now.node (kept_files self.old) (kept_files self.new)) }
+        ensures refused { IfErr result (λ _. ClosesFlushed (kept_files self.old) (kept_files self.new)) }
         ensures place { IfOk result (λ kept. kept_place kept ≡ place.now) }
+        ensures node { IfOk result (λ kept. kept_node kept ≡ found.now.node) }
         ensures room { OnOk result (HasRoom self.new) }
         ensures answers { IfErr result IsNoFile }
     {
         match self.find(&found.node) {
             Some(k) => Ok(self.kept.remove(k).found_at(place)),
             None => {
-                self.make_room()?;
+                self.close_one()?;
                 Kept::open(rt, path, place, found)
             }
         }
@@ -107,13 +130,15 @@ impl OpenFiles {
     /// Keeps a file that was taken out, as the one that was used last.
     pub fn put_back(&mut self, kept: Kept)
         requires room { HasRoom self.old }
-        ensures kept { self.new.kept.items ≡ self.old.kept.items ++ kept ∷ [] }
+        ensures kept { kept_files self.new ≡ kept_files self.old ++ kept ∷ [] }
     {
         let _ = self.kept.push(kept);
     }
 
     /// Closes a file that was removed, whether or not it was flushed.
-    pub fn forget(&mut self, node: &Node) {
+    pub fn forget(&mut self, node: &Node)
+        ensures { IsForgotten node.now (kept_files self.old) (kept_files self.new) }
+    {
         if let Some(k) = self.find(node) {
             drop(self.kept.remove(k));
         }
