@@ -1,30 +1,54 @@
 -- Folders that are made one after the other.
 use Rattle.std.proofs.Math.Seq.{drop-cons}
-use Rattle.std.proofs.Common.{ℕ, ◌+◌, ◌<◌, length, drop, get_or, add-one, ◌≡◌, ◌⊎◌, List, [], ◌∷◌, true, ◌∙◌, inl, inr}
+use Rattle.std.proofs.Common.{ℕ, ◌+◌, ◌<◌, length, drop, get_or, add-one, ◌≡◌, ◌⊎◌, List, [], ◌∷◌, true, Err, refl, sym, subst, ◌∙◌, inl, inr}
+use Rattle.std.proofs.lemmas.Bool.{false≢true}
 use Rattle.sd_names.specs.declared.place.Dir.{Dir}
 use Rattle.sd_names.specs.declared.place.Dir.TheVariants.{Root}
 use Rattle.shared_disk.specs.Content.{Content, IsEmpty}
-use Rattle.shared_disk.specs.Calls.{IsDirMade}
-use Rattle.pool_session.specs.Folders.{HasJust, IsAmong}
+use Rattle.shared_disk.specs.Calls.{IsDirMade, MakesDir, parent_of}
+use Rattle.shared_disk.specs.declared.disk.DiskAnswer.{DiskAnswer}
+use Rattle.shared_disk.specs.declared.disk.DiskAnswer.TheVariants.{NoFile, Exists, OutOfFile, NotEmpty, Failed}
+use Rattle.pool_session.specs.Folders.{HasFolders, HasJust, HasSome, IsAmong}
 
 there_after : (dirs : List Dir) (dir : Dir) (d e : Content) → HasJust dirs d → (IsAmong dirs dir → ⊥) → IsDirMade d dir e
     → (q : Dir) → (q ≡ dir) ⊎ IsAmong dirs q → e.dir q ≡ true
 there_after dirs dir d e has new made q (inl is) = rw is made.put.here
-there_after dirs dir d e has new made q (inr among) = made.put.others q (λ is. new (rw is at among)) ∙ has.there q among
+there_after dirs dir d e has new made q (inr among) = made.put.others q (λ is. new (rw is at among)) ∙ has.folders.there q among
 
 -- one more folder is there
 pub just_made : (dirs : List Dir) (dir : Dir) (d e : Content) → HasJust dirs d → (IsAmong dirs dir → ⊥) → IsDirMade d dir e → HasJust (dir ∷ dirs) e
 just_made dirs dir d e has new made = record {
-  there = there_after dirs dir d e has new made;
-  only = λ q not. made.put.others q (λ is. not (inl is)) ∙ has.only q (λ among. not (inr among));
+  folders = record {
+    there = there_after dirs dir d e has new made;
+    only = λ q not. made.put.others q (λ is. not (inl is)) ∙ has.folders.only q (λ among. not (inr among));
+  };
   files = λ q. made.put.files q ∙ has.files q;
 }
+
+-- A call that is refused, though the folder above is there and this one isn't, has failed, and made the folder or not.
+pub dir_failed : (dirs : List Dir) (dir : Dir) (d e : Content) (answer : DiskAnswer) → HasJust dirs d → IsAmong dirs (parent_of dir) → (IsAmong dirs dir → ⊥)
+    → MakesDir d dir (Err answer) e → (answer ≡ Failed) × HasSome dirs (dir ∷ []) e
+dir_failed dirs dir d e Failed has above new (inl same) = (refl, inl (subst (HasJust dirs) (sym same) has))
+dir_failed dirs dir d e Failed has above new (inr made) = (refl, inr (just_made dirs dir d e has new made))
+dir_failed dirs dir d e NoFile has above new call = absurd (false≢true (sym call.1 ∙ has.folders.there (parent_of dir) above))
+dir_failed dirs dir d e Exists has above new call = absurd (false≢true (sym (has.folders.only dir new) ∙ call.2))
+dir_failed dirs dir d e OutOfFile has above new call = absurd call
+dir_failed dirs dir d e NotEmpty has above new call = absurd call
+
+-- none of the others was made
+pub some_none : (known dirs : List Dir) (d : Content) → HasJust known d → HasSome known dirs d
+some_none known [] d has = has
+some_none known (dir ∷ dirs) d has = inl has
+
+-- one of the others was made or not
+pub some_one : (known : List Dir) (dir : Dir) (dirs : List Dir) (d : Content) → HasSome known (dir ∷ []) d → HasSome known (dir ∷ dirs) d
+some_one known dir dirs d (inl has) = inl has
+some_one known dir dirs d (inr has) = inr (some_none (dir ∷ known) dirs d has)
 
 -- an empty folder has Root alone
 pub just_root : (d : Content) → IsEmpty d → HasJust (Root ∷ []) d
 just_root d empty = record {
-  there = λ q among. root_there d empty q among;
-  only = λ q not. empty.dirs q (λ is. not (inl is));
+  folders = record { there = λ q among. root_there d empty q among; only = λ q not. empty.dirs q (λ is. not (inl is)) };
   files = empty.files;
 }
   where

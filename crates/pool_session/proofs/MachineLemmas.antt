@@ -42,11 +42,11 @@ module _ (stage : Stage) (flat : ℕ → List ℕ) (faults : ℕ) (refusals : Bo
   pub write_cut : (bytes : List ℕ) (refusal : Refusal) (mixed : ℕ → List ℕ) → o ≡ part_refusal at (length bytes) image.capacity
       → Rose faults faults' → refusal ≡ DiskFault faults' → Mixed (at / 512) bytes flat mixed
       → Acts (state_at stage flat faults refusals) (act.Write image at (length bytes)) bytes (refused refusal)
-      (state_after (state_at stage flat faults refusals) (Stopped (Some image)) mixed faults' (refused refusal))
+      (state_after (state_at stage flat faults refusals) (Stopped image) mixed faults' (refused refusal))
   write_cut bytes refusal mixed is rose told mixes =
       on_part o (part_refusal at (length bytes) image.capacity) is not (state_at stage flat faults refusals) image (refused refusal)
-      (state_after (state_at stage flat faults refusals) (Stopped (Some image)) mixed faults' (refused refusal))
-      (WritesImage (state_at stage flat faults refusals) image at bytes (refused refusal) (state_after (state_at stage flat faults refusals) (Stopped (Some image)) mixed faults' (refused refusal)))
+      (state_after (state_at stage flat faults refusals) (Stopped image) mixed faults' (refused refusal))
+      (WritesImage (state_at stage flat faults refusals) image at bytes (refused refusal) (state_after (state_at stage flat faults refusals) (Stopped image) mixed faults' (refused refusal)))
       (inr (mixed, mixes, (rose, (ap refused told, no_less, refl))))
 
   -- a read that is done
@@ -61,10 +61,10 @@ module _ (stage : Stage) (flat : ℕ → List ℕ) (faults : ℕ) (refusals : Bo
   -- a read that has failed
   pub read_cut : (count : ℕ) (refusal : Refusal) → o ≡ part_refusal at count image.capacity → Rose faults faults' → refusal ≡ DiskFault faults'
       → Acts (state_at stage flat faults refusals) (act.Read image at count) [] (refused refusal)
-      (state_after (state_at stage flat faults refusals) (Stopped (Some image)) flat faults' (refused refusal))
+      (state_after (state_at stage flat faults refusals) (Stopped image) flat faults' (refused refusal))
   read_cut count refusal is rose told = on_part o (part_refusal at count image.capacity) is not (state_at stage flat faults refusals) image (refused refusal)
-      (state_after (state_at stage flat faults refusals) (Stopped (Some image)) flat faults' (refused refusal))
-      (ReadsImage (state_at stage flat faults refusals) image at count (refused refusal) (state_after (state_at stage flat faults refusals) (Stopped (Some image)) flat faults' (refused refusal)))
+      (state_after (state_at stage flat faults refusals) (Stopped image) flat faults' (refused refusal))
+      (ReadsImage (state_at stage flat faults refusals) image at count (refused refusal) (state_after (state_at stage flat faults refusals) (Stopped image) flat faults' (refused refusal)))
       (inr (rose, (ap refused told, no_less, refl)))
 
 -- a file that is all on the medium is seen as it is
@@ -73,7 +73,9 @@ holds_seen image flat d holds = record {
   file = holds.file;
   there = holds.there;
   size = holds.size;
+  settled = holds.settled;
   sectors = λ k. ap (λ ls. unwrap_or (own_of 1 k ls) (holds.file.stable k)) holds.synced ∙ holds.sectors k;
+  alone = holds.alone;
 }
 
 -- the front of the room is what was read

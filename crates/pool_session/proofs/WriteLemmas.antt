@@ -1,17 +1,18 @@
 -- What is known in the course of a write, and what each of its steps leaves.
-use Rattle.std.proofs.Common.{◌≡◌, ℕ, ◌+◌, ◌-◌, ◌*◌, ◌/◌, ◌<◌, ◌≤◌, ◌&&◌, ◌⊎◌, nat_le, nat_lt, Bool, List, [], length, true, false, Some, Ok, unwrap_or, if◌then◌else◌, refl, sym, ap, ◌∙◌, subst, inl, inr, arith}
+use Rattle.std.proofs.Common.{◌≡◌, ℕ, ◌+◌, ◌-◌, ◌*◌, ◌/◌, ◌<◌, ◌≤◌, ◌&&◌, ◌⊎◌, nat_le, nat_lt, Bool, List, [], length, true, false, Option, Some, None, Ok, unwrap_or, if◌then◌else◌, refl, sym, ap, ◌∙◌, subst, inl, inr, arith}
 use Rattle.std.proofs.lemmas.Bool.Decides.{nat_tests}
 use Rattle.std.proofs.lemmas.Bool.{false≢true}
 use Rattle.std.proofs.Math.Decide.{dec_lt}
 use Rattle.sd_names.specs.declared.place.Place.{Place}
-use Rattle.shared_disk.specs.Content.{Content, File, own_of, without, seen, sector_of}
+use Rattle.shared_disk.specs.Content.{Content, File, own_of, unless_by, without, seen, sector_of}
 use Rattle.shared_disk.specs.Calls.{wrote, synced, sectors_in, WriteAt, Syncs, IsPut}
 use Rattle.raw_layer.specs.declared.write.RawWrite.{RawWrite}
 use Rattle.raw_layer.specs.declared.write.Stage.{Stage}
 use Rattle.raw_layer.specs.declared.write.Stage.TheVariants.{Begun, Fits, Written}
 use Rattle.pool_session.specs.declared.image.Image.{Image}
-use Rattle.pool_session.specs.Image.{HoldsFlat, SeenFlat, Mixed, laid, file_of}
+use Rattle.pool_session.specs.Image.{HoldsFlat, IsAlone, SeenFlat, Mixed, laid, file_of}
 use Rattle.shared_disk.proofs.OwnWrites.{own_of-writes_hit, own_of-writes_miss, without_writes}
+use Rattle.pool_session.proofs.ImageLemmas.{alone_put}
 
 -- the file has the part written, and not yet synced, over these sectors
 pub record HoldsWrite (image : Image) (at : ℕ) (part : List ℕ) (flat : ℕ → List ℕ) (e : Content) : Type 0 where
@@ -19,7 +20,9 @@ pub record HoldsWrite (image : Image) (at : ℕ) (part : List ℕ) (flat : ℕ �
   pub there : e.file (file_of image) ≡ Some (wrote (λ _. true) 1 at part file)
   pub size : 512 * file.size ≡ image.capacity
   pub synced : file.loose ≡ []
+  pub settled : file.fresh ≡ None
   pub sectors : (k : ℕ) → file.stable k ≡ flat k
+  pub alone : IsAlone image e
 
 -- by the stage of the write
 abbrev pub Knows : Stage → Image → ℕ → List ℕ → (ℕ → List ℕ) → Content → Type 0
@@ -114,6 +117,13 @@ either_flat at bytes old flat now k (inl is) e = inl (is ∙ e)
 either_flat at bytes old flat now k (inr is) e = inr (is ∙ laid_same at bytes old flat k e)
 
 module _ (image : Image) (flat : ℕ → List ℕ) (w : RawWrite) (at faults : ℕ) (part : List ℕ) (d e : Content) (from : w.at ≡ at) (place : w.place ≡ file_of image) where
+  -- beside the image's file nothing has changed
+  still_alone : (file : Option File) → IsAlone image d → IsPut d w.place file e → IsAlone image e
+  still_alone file alone put = alone_put image d e file alone (subst (λ (p : Place). IsPut d p file e) place put)
+
+  same_alone : IsAlone image d → e ≡ d → IsAlone image e
+  same_alone alone same = subst (IsAlone image) (sym same) alone
+
   -- a write that was done
   pub after_write : HoldsFlat image flat d → WriteAt d 1 w.place (w.at / 512) part (Ok tt) e → HoldsWrite image (at / 512) part flat e
   after_write holds wrote_is =
@@ -123,7 +133,9 @@ module _ (image : Image) (flat : ℕ → List ℕ) (w : RawWrite) (at faults : �
         there = ap e.file (sym place) ∙ wrote_is.3.here ∙ (rw (from, same) refl);
         size = holds.size;
         synced = holds.synced;
+        settled = holds.settled;
         sectors = holds.sectors;
+        alone = still_alone _ holds.alone wrote_is.3;
       }
 
   -- a sync that was done
@@ -135,7 +147,9 @@ module _ (image : Image) (flat : ℕ → List ℕ) (w : RawWrite) (at faults : �
         there = ap e.file (sym place) ∙ sync_is.2.here ∙ (rw same refl);
         size = holds.size;
         synced = without_writes (λ _. true) 1 (at / 512) (sectors_in part) part holds.file.loose ∙ ap (without 1) holds.synced;
+        settled = ap (unless_by 1) holds.settled;
         sectors = λ k. seen_laid (at / 512) part holds.file k holds.synced ∙ laid_same (at / 512) part holds.file.stable flat k (holds.sectors k);
+        alone = still_alone _ holds.alone sync_is.2;
       }
 
   -- what host 1 sees where nothing was written
@@ -144,7 +158,9 @@ module _ (image : Image) (flat : ℕ → List ℕ) (w : RawWrite) (at faults : �
     file = holds.file;
     there = ap (λ (c : Content). c.file (file_of image)) same ∙ holds.there;
     size = holds.size;
+    settled = holds.settled;
     sectors = λ k. ap (λ ls. unwrap_or (own_of 1 k ls) (holds.file.stable k)) holds.synced ∙ holds.sectors k;
+    alone = same_alone holds.alone same;
   }
 
   -- where the write was done and not synced
@@ -153,7 +169,9 @@ module _ (image : Image) (flat : ℕ → List ℕ) (w : RawWrite) (at faults : �
     file = wrote (λ _. true) 1 (at / 512) part holds.file;
     there = ap (λ (c : Content). c.file (file_of image)) same ∙ holds.there;
     size = holds.size;
+    settled = holds.settled;
     sectors = λ k. seen_laid (at / 512) part holds.file k holds.synced ∙ laid_same (at / 512) part holds.file.stable flat k (holds.sectors k);
+    alone = same_alone holds.alone same;
   }
 
   -- where some of its sectors were done
@@ -168,6 +186,8 @@ module _ (image : Image) (flat : ℕ → List ℕ) (w : RawWrite) (at faults : �
           file = g;
           there = ap e.file (sym place) ∙ put.here ∙ (rw (from, same) refl);
           size = holds.size;
+          settled = holds.settled;
           sectors = λ k. refl;
+          alone = still_alone _ holds.alone put;
         },
       )

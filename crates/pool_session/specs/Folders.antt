@@ -12,11 +12,20 @@ abbrev pub IsAmong : List Dir → Dir → Type 0
 IsAmong [] q = ⊥
 IsAmong (dir ∷ dirs) q = (q ≡ dir) ⊎ IsAmong dirs q
 
--- these folders are there and no others, and no file is
-pub record HasJust (dirs : List Dir) (d : Content) : Type 0 where
+-- these folders are there and no others
+pub record HasFolders (dirs : List Dir) (d : Content) : Type 0 where
   pub there : (q : Dir) → IsAmong dirs q → d.dir q ≡ true
   pub only : (q : Dir) → (IsAmong dirs q → ⊥) → d.dir q ≡ false
+
+-- these folders are there and no others, and no file is
+pub record HasJust (dirs : List Dir) (d : Content) : Type 0 where
+  pub folders : HasFolders dirs d
   pub files : (q : Place) → d.file q ≡ None
+
+-- the folders of the first list alone are there, or with them the first of the second, or its first two, and so on
+abbrev pub HasSome : List Dir → List Dir → Content → Type 0
+HasSome known [] d = HasJust known d
+HasSome known (dir ∷ dirs) d = HasJust known d ⊎ HasSome (dir ∷ known) dirs d
 
 -- The folders can be made one after the other where those of the first list are there: each stands in one that is there
 -- by then, and isn't there itself.
@@ -36,3 +45,7 @@ folders_of sd = Domain sd ∷ DomMd sd ∷ Images sd ∷ Master sd ∷ Tasks sd 
 -- the domain's folders and Root are there, and nothing else
 abbrev pub HasDomain : Id → Content → Type 0
 HasDomain sd d = HasJust (with_made (Root ∷ []) (folders_of sd)) d
+
+-- Root is there and the first so many of the domain's folders, and nothing else
+abbrev pub HasPartOfDomain : Id → Content → Type 0
+HasPartOfDomain sd d = HasSome (Root ∷ []) (folders_of sd) d

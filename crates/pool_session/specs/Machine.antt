@@ -11,15 +11,15 @@ use Rattle.shared_disk.specs.Calls.{Rose}
 use Rattle.pool_session.specs.Answer.{Answer, plain, done, refused, is_refusal}
 use Rattle.pool_session.specs.Capacity.{IsCapacity}
 use Rattle.pool_session.specs.Command.{Asked}
-use Rattle.pool_session.specs.Folders.{HasDomain}
-use Rattle.pool_session.specs.Image.{HoldsFlat, SeenFlat, ReadsFlat, Mixed, laid}
+use Rattle.pool_session.specs.Folders.{HasDomain, HasPartOfDomain}
+use Rattle.pool_session.specs.Image.{HasPartOfImage, HoldsFlat, SeenFlat, ReadsFlat, Mixed, laid}
 use Rattle.pool_session.specs.declared.command.Command.{Command}
 use Rattle.pool_session.specs.declared.command.Command.TheVariants as command
 use Rattle.pool_session.specs.declared.stage.Act.{Act}
 use Rattle.pool_session.specs.declared.stage.Act.TheVariants as act
 use Rattle.pool_session.specs.declared.image.Image.{Image}
 use Rattle.pool_session.specs.declared.stage.Stage.{Stage}
-use Rattle.pool_session.specs.declared.stage.Stage.TheVariants.{Off, Up, Pooled, Managed, Created, Opened, Stopped}
+use Rattle.pool_session.specs.declared.stage.Stage.TheVariants.{Off, Up, Pooled, Managed, Created, Opened, MakePoolStopped, CreateStopped, Stopped}
 
 -- The stage that is reached, the sectors of the image as one flat list, the disk's count of faults, and whether some
 -- reply was a refusal.
@@ -60,8 +60,8 @@ abbrev pub GoesOn : State → Stage → (ℕ → List ℕ) → Answer → Answer
 GoesOn s stage flat wanted answer t = (answer ≡ wanted) × (s.faults ≤ t.faults) × (t ≡ state_after s stage flat t.faults answer)
 
 -- The disk has failed: its count rose, is told, and nothing more is built.
-abbrev pub Stops : State → Option Image → (ℕ → List ℕ) → Answer → State → Type 0
-Stops s image flat answer t = Rose s.faults t.faults × GoesOn s (Stopped image) flat (refused (DiskFault t.faults)) answer t
+abbrev pub Stops : State → Stage → (ℕ → List ℕ) → Answer → State → Type 0
+Stops s stage flat answer t = Rose s.faults t.faults × GoesOn s stage flat (refused (DiskFault t.faults)) answer t
 
 -- the line isn't built
 abbrev pub IsNotBuilt : State → Answer → State → Type 0
@@ -71,13 +71,13 @@ IsNotBuilt s answer t = GoesOn s s.stage s.flat (refused NotBuilt) answer t
 abbrev pub ReadsImage : State → Image → ℕ → ℕ → Answer → State → Type 0
 ReadsImage s image at count answer t =
     ((bytes : List ℕ) × (length bytes ≡ count) × ReadsFlat (at / 512) s.flat bytes × GoesOn s (Opened image) s.flat (done (printed bytes)) answer t)
-    ⊎ Stops s (Some image) s.flat answer t
+    ⊎ Stops s (Stopped image) s.flat answer t
 
 -- a write lays its bytes over the image, or the disk fails, and each sector of it is old or new
 abbrev pub WritesImage : State → Image → ℕ → List ℕ → Answer → State → Type 0
 WritesImage s image at bytes answer t =
     GoesOn s (Opened image) (laid (at / 512) bytes s.flat) plain answer t
-    ⊎ ((mixed : ℕ → List ℕ) × Mixed (at / 512) bytes s.flat mixed × Stops s (Some image) mixed answer t)
+    ⊎ ((mixed : ℕ → List ℕ) × Mixed (at / 512) bytes s.flat mixed × Stops s (Stopped image) mixed answer t)
 
 -- a part is refused where it is, and else read or written
 abbrev pub OnPart : Option Refusal → State → Image → Answer → State → Type 0 → Type 0
@@ -86,9 +86,9 @@ OnPart refusal s image answer t P = MatchOption refusal P (λ r. GoesOn s (Opene
 -- what is due is done, with the bytes that it writes
 abbrev pub Acts : State → Act → List ℕ → Answer → State → Type 0
 Acts s act.Boot bytes answer t = GoesOn s Up s.flat plain answer t
-Acts s (act.MakePool sd) bytes answer t = GoesOn s (Pooled sd) s.flat plain answer t ⊎ Stops s None s.flat answer t
+Acts s (act.MakePool sd) bytes answer t = GoesOn s (Pooled sd) s.flat plain answer t ⊎ Stops s (MakePoolStopped sd) s.flat answer t
 Acts s (act.SpmStart sd) bytes answer t = GoesOn s (Managed sd) s.flat (done (decimal 1)) answer t
-Acts s (act.Create image) bytes answer t = GoesOn s (Created image) (λ _. zero_sector) plain answer t ⊎ Stops s None s.flat answer t
+Acts s (act.Create image) bytes answer t = GoesOn s (Created image) (λ _. zero_sector) plain answer t ⊎ Stops s (CreateStopped image) s.flat answer t
 Acts s (act.Open image) bytes answer t = GoesOn s (Opened image) s.flat (done (id_text image.volume.0 ++ 32 ∷ decimal image.capacity)) answer t
 Acts s (act.Write image at count) bytes answer t = OnPart (part_refusal at count image.capacity) s image answer t (WritesImage s image at bytes answer t)
 Acts s (act.Read image at count) bytes answer t = OnPart (part_refusal at count image.capacity) s image answer t (ReadsImage s image at count answer t)
@@ -98,7 +98,7 @@ abbrev pub Answers : State → Option Asked → Answer → State → Type 0
 Answers s asked answer t = MatchOption asked (IsNotBuilt s answer t)
     (λ a. MatchOption (act_of s.stage a.0) (IsNotBuilt s answer t) (λ due. Acts s due a.1 answer t))
 
--- what the disk holds at a stage
+-- What the disk holds at a stage, and nothing else. The machine's sectors say nothing of a folder where no image is made.
 abbrev pub Stands : Stage → (ℕ → List ℕ) → Content → Type 0
 Stands Off flat d = IsEmpty d
 Stands Up flat d = IsEmpty d
@@ -106,8 +106,9 @@ Stands (Pooled sd) flat d = HasDomain sd d
 Stands (Managed sd) flat d = HasDomain sd d
 Stands (Created image) flat d = HoldsFlat image flat d
 Stands (Opened image) flat d = HoldsFlat image flat d
-Stands (Stopped None) flat d = Unit {0}
-Stands (Stopped (Some image)) flat d = SeenFlat image flat d
+Stands (MakePoolStopped sd) flat d = HasPartOfDomain sd d
+Stands (CreateStopped image) flat d = HasPartOfImage 1 image d
+Stands (Stopped image) flat d = SeenFlat image flat d
 
 -- what the disk has to hold for what is due
 abbrev pub StandsFor : Act → (ℕ → List ℕ) → Content → Type 0

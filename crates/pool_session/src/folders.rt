@@ -4,20 +4,20 @@ ghost use Rattle.sd_names.specs.declared.place.Dir.TheVariants.{Root};
 ghost use Rattle.shared_disk.specs.Content.{Content, IsEmpty};
 ghost use Rattle.shared_disk.specs.Calls.{parent_of};
 ghost use Rattle.pool_session.specs.Fault.{IsFault};
-ghost use Rattle.pool_session.specs.Folders.{HasJust, HasDomain, IsAmong, IsOrderly, with_made};
+ghost use Rattle.pool_session.specs.Folders.{HasJust, HasSome, HasDomain, HasPartOfDomain, IsAmong, IsOrderly, with_made};
 
 use sd_names::{Dir, HostId, Id, Refusal};
 use shared_disk::{SharedDisk, refusal_for};
 
 /// Makes a folder. Where the disk tells what it holds, the folder above is there and this one isn't, it is refused only
-/// for a fault of the disk.
+/// for a fault of the disk, and is there or not then.
 pub fn make_dir<D: SharedDisk>(host: HostId, dir: Dir, disk: &mut D) -> Result<(), Refusal>
     requires { dir ≢ Root }
     ensures count { D.faults disk.old ≤ D.faults disk.new }
     ensures content { (d : Content) (dirs : List Dir) → D.content disk.old ≡ Some d → HasJust dirs d
         → IsAmong dirs (parent_of dir) → (IsAmong dirs dir → ⊥)
         → (e : Content) × (D.content disk.new ≡ Some e)
-        × MatchResult result (λ _. HasJust (dir ∷ dirs) e) (λ refusal. IsFault (D.faults disk.old) (D.faults disk.new) refusal) }
+        × MatchResult result (λ _. HasJust (dir ∷ dirs) e) (λ refusal. IsFault (D.faults disk.old) (D.faults disk.new) refusal × HasSome dirs (dir ∷ []) e) }
 {
     match disk.make_dir(host, dir) {
         Ok(()) => Ok(()),
@@ -25,13 +25,13 @@ pub fn make_dir<D: SharedDisk>(host: HostId, dir: Dir, disk: &mut D) -> Result<(
     }
 }
 
-/// Makes folders, one after the other, of which each stands in one that is there by then.
+/// Makes folders, one after the other, of which each stands in one that is there by then. A fault leaves the first so many.
 fn make_dirs<D: SharedDisk>(host: HostId, dirs: &[Dir], disk: &mut D) -> Result<(), Refusal>
     requires { IsOrderly (Root ∷ []) dirs.now }
     ensures count { D.faults disk.old ≤ D.faults disk.new }
     ensures content { (d : Content) → D.content disk.old ≡ Some d → HasJust (Root ∷ []) d
         → (e : Content) × (D.content disk.new ≡ Some e)
-        × MatchResult result (λ _. HasJust (with_made (Root ∷ []) dirs.now) e) (λ refusal. IsFault (D.faults disk.old) (D.faults disk.new) refusal) }
+        × MatchResult result (λ _. HasJust (with_made (Root ∷ []) dirs.now) e) (λ refusal. IsFault (D.faults disk.old) (D.faults disk.new) refusal × HasSome (Root ∷ []) dirs.now e) }
 {
     for dir in dirs {
         make_dir(host, *dir, disk)?;
@@ -39,12 +39,12 @@ fn make_dirs<D: SharedDisk>(host: HostId, dirs: &[Dir], disk: &mut D) -> Result<
     Ok(())
 }
 
-/// Makes the folders of a domain in an empty folder.
+/// Makes the folders of a domain in an empty folder. A fault leaves the first so many.
 pub fn make_folders<D: SharedDisk>(host: HostId, sd: Id, disk: &mut D) -> Result<(), Refusal>
     ensures count { D.faults disk.old ≤ D.faults disk.new }
     ensures content { (d : Content) → D.content disk.old ≡ Some d → IsEmpty d
         → (e : Content) × (D.content disk.new ≡ Some e)
-        × MatchResult result (λ _. HasDomain sd e) (λ refusal. IsFault (D.faults disk.old) (D.faults disk.new) refusal) }
+        × MatchResult result (λ _. HasDomain sd e) (λ refusal. IsFault (D.faults disk.old) (D.faults disk.new) refusal × HasPartOfDomain sd e) }
 {
     let dirs = [
         Dir::Domain(sd),

@@ -1,8 +1,8 @@
 // The one image of the session: how its volume's file is made, read and written.
 ghost use lib.Pointwise.{pointwise};
-ghost use Rattle.std.specs.Prelude.{◌&&◌, nat_eq, ◌≡◌, ℕ, ◌+◌, ◌/◌, ◌≤◌, ◌^◌, ◌<◌, List, true, None, length, MatchResult};
+ghost use Rattle.std.specs.Prelude.{◌&&◌, nat_eq, ◌≡◌, ℕ, ◌+◌, ◌/◌, ◌≤◌, ◌^◌, ◌<◌, ◌⊎◌, List, true, None, Some, length, MatchResult};
 ghost use Rattle.shared_disk.specs.Content.{Content, File, zero_sector};
-ghost use Rattle.shared_disk.specs.Calls.{IsAligned, IsPiece, created, synced};
+ghost use Rattle.shared_disk.specs.Calls.{IsAligned, IsPiece, IsPut, created, synced};
 ghost use Rattle.pool_session.specs.Capacity.{IsCapacity};
 ghost use Rattle.pool_session.specs.Fault.{IsFault};
 ghost use Rattle.pool_session.specs.Folders.{HasDomain};
@@ -22,7 +22,7 @@ pub struct Image {
 }
 
 impl Image {
-    ghost use Rattle.pool_session.specs.Image.{file_of, HoldsFlat, SeenFlat, Mixed, ReadsFlat, laid};
+    ghost use Rattle.pool_session.specs.Image.{file_of, HasPartOfImage, HoldsFlat, SeenFlat, Mixed, ReadsFlat, laid};
 
     /// Whether this is the image of that domain and identifier.
     pub fn is_named(&self, sd: &Id, image: &Id) -> bool
@@ -42,13 +42,13 @@ impl Image {
     }
 
     /// Makes the image's folder and its volume's file of zeros, synced. Where the disk tells that it holds the folders of
-    /// the domain alone, it is refused only for a fault of the disk.
+    /// the domain alone, it is refused only for a fault of the disk, and a part of it is made then.
     pub fn create<D: SharedDisk>(&self, host: HostId, disk: &mut D) -> Result<(), Refusal>
         requires { IsCapacity self.now.capacity }
         ensures count { D.faults disk.old ≤ D.faults disk.new }
         ensures content { (d : Content) → D.content disk.old ≡ Some d → HasDomain self.now.sd d
             → (e : Content) × (D.content disk.new ≡ Some e)
-            × MatchResult result (λ _. HoldsFlat self.now (λ _. zero_sector) e) (λ refusal. IsFault (D.faults disk.old) (D.faults disk.new) refusal) }
+            × MatchResult result (λ _. HoldsFlat self.now (λ _. zero_sector) e) (λ refusal. IsFault (D.faults disk.old) (D.faults disk.new) refusal × HasPartOfImage host self.now e) }
     {
         make_dir(host, Dir::Image(self.sd, self.image), disk)?;
         create_file(host, self.place(), self.capacity, disk)
@@ -111,7 +111,7 @@ impl Image {
 }
 
 /// Makes a file of zeros and syncs it. Where the disk tells that the folder is there and the file isn't, it is refused
-/// only for a fault of the disk.
+/// only for a fault of the disk, which leaves no file or one that isn't synced. Nothing else changes.
 fn create_file<D: SharedDisk>(
     host: HostId,
     place: Place,
@@ -122,7 +122,9 @@ fn create_file<D: SharedDisk>(
     ensures count { D.faults disk.old ≤ D.faults disk.new }
     ensures content { (d : Content) → D.content disk.old ≡ Some d → d.dir place.dir ≡ true → d.file place ≡ None
         → (e : Content) × (D.content disk.new ≡ Some e)
-        × MatchResult result (λ _. e.file place ≡ Some (synced host (created host (size / 512)))) (λ refusal. IsFault (D.faults disk.old) (D.faults disk.new) refusal) }
+        × MatchResult result
+        (λ _. IsPut d place (Some (synced host (created host (size / 512)))) e)
+        (λ refusal. IsFault (D.faults disk.old) (D.faults disk.new) refusal × ((e ≡ d) ⊎ IsPut d place (Some (created host (size / 512))) e)) }
 {
     match disk.create(host, place, size) {
         Ok(()) => sync_file(host, place, disk),
@@ -130,12 +132,12 @@ fn create_file<D: SharedDisk>(
     }
 }
 
-/// Syncs a file. Where the disk tells that it is there, it is refused only for a fault of the disk.
+/// Syncs a file. Where the disk tells that it is there, it is refused only for a fault of the disk, which changes nothing.
 fn sync_file<D: SharedDisk>(host: HostId, place: Place, disk: &mut D) -> Result<(), Refusal>
     ensures count { D.faults disk.old ≤ D.faults disk.new }
     ensures content { (d : Content) (f : File) → D.content disk.old ≡ Some d → d.file place ≡ Some f
         → (e : Content) × (D.content disk.new ≡ Some e)
-        × MatchResult result (λ _. e.file place ≡ Some (synced host f)) (λ refusal. IsFault (D.faults disk.old) (D.faults disk.new) refusal) }
+        × MatchResult result (λ _. IsPut d place (Some (synced host f)) e) (λ refusal. IsFault (D.faults disk.old) (D.faults disk.new) refusal × (e ≡ d)) }
 {
     match disk.sync(host, place) {
         Ok(()) => Ok(()),

@@ -113,7 +113,7 @@ impl Machine {
                 Reply::Plain
             }
             Err(refusal) => {
-                self.stage = Stage::Stopped(None);
+                self.stage = Stage::MakePoolStopped(sd);
                 Reply::Refused(refusal)
             }
         }
@@ -132,7 +132,7 @@ impl Machine {
                 Reply::Plain
             }
             Err(refusal) => {
-                self.stage = Stage::Stopped(None);
+                self.stage = Stage::CreateStopped(image);
                 Reply::Refused(refusal)
             }
         }
@@ -156,7 +156,7 @@ impl Machine {
                 Reply::Plain
             }
             Err(refusal) => {
-                self.stage = Stage::Stopped(Some(image));
+                self.stage = Stage::Stopped(image);
                 Reply::Refused(refusal)
             }
         }
@@ -188,7 +188,7 @@ impl Machine {
                 Reply::Bytes(count)
             }
             Err(refusal) => {
-                self.stage = Stage::Stopped(Some(image));
+                self.stage = Stage::Stopped(image);
                 Reply::Refused(refusal)
             }
         }

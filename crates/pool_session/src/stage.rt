@@ -21,8 +21,12 @@ pub enum Stage {
     Created(Image),
     /// The image is open.
     Opened(Image),
-    /// The disk has failed, with this image made or none.
-    Stopped(Option<Image>),
+    /// The disk has failed while the folders of this domain were made.
+    MakePoolStopped(Id),
+    /// The disk has failed while this image was made.
+    CreateStopped(Image),
+    /// The disk has failed in a write or a read of this image.
+    Stopped(Image),
 }
 
 /// What a command comes to at the stage that waits for it.

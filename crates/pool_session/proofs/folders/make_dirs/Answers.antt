@@ -1,6 +1,8 @@
-use Rattle.std.proofs.Common.{sym, ◌∙◌, ap, arith}
-use Rattle.pool_session.specs.Folders.{with_made}
-use Rattle.pool_session.proofs.FolderLemmas.{left_at}
+use Rattle.std.proofs.Common.{◌≡◌, List, Err, sym, ◌∙◌, ap, subst, inr, arith, rules}
+use Rattle.sd_names.specs.declared.place.Dir.{Dir}
+use Rattle.pool_session.specs.Folders.{HasSome, with_made}
+use Rattle.pool_session.proofs.FaultLemmas.{fault_since}
+use Rattle.pool_session.proofs.FolderLemmas.{left_at, some_one}
 use Rattle.pool_session.proofs.folders.make_dirs.Goals as goal
 
 pub loop-dir-preserved : goal.loop-dir-preserved
@@ -12,8 +14,26 @@ loop-dir-preserved g c =
       orderly.3,
       sym (ap (with_made known) left) ∙ c.loop-dir.invariant.2,
       omega arith,
+      λ e some. c.loop-dir.invariant.4 e (subst (λ (dirs : List Dir). HasSome known dirs e) (sym left) (inr some)),
       λ d tells root.
-          let before = c.loop-dir.invariant.4 d tells root in
+          let before = c.loop-dir.invariant.5 d tells root in
           let after = c.in_ok-make_dir.ensures.content before.0 known before.1 before.2 orderly.1 orderly.2 in
           (after.0, after.1, after.2),
+    )
+
+pub returns-in_err-make_dir-clause-content : goal.returns-in_err-make_dir-clause-content
+returns-in_err-make_dir-clause-content g c d tells root =
+    let known = c.loop-dir.invariant.0 in
+    let left = left_at c.args.dirs.now c.loop-dir.dir-index (omega arith) in
+    let orderly = rw left at c.loop-dir.invariant.1 in
+    let before = c.loop-dir.invariant.5 d tells root in
+    let failed = c.in_err-make_dir.ensures.content before.0 known before.1 before.2 orderly.1 orderly.2 in
+    let some = c.loop-dir.invariant.4 failed.0 (subst (λ (dirs : List Dir). HasSome known dirs failed.0) (sym left) (some_one known _ _ failed.0 failed.2.1)) in
+    let is : c.from_residual.result ≡ Err c.in_err-make_dir.field-0.0 = search rules in (
+      failed.0,
+      failed.1,
+      rw is (
+        fault_since (g.D.SharedDisk.faults c.args.disk.now) (g.D.SharedDisk.faults c.loop-dir.disk) (g.D.SharedDisk.faults c.make_dir.new.disk) _ c.loop-dir.invariant.3 failed.2.0,
+        some,
+      ),
     )

@@ -2,7 +2,7 @@ use Rattle.std.proofs.Common.{◌≡◌, ◌≤◌, ◌∷◌, [], List, Some, d
 use Rattle.sd_names.specs.declared.place.Dir.{Dir}
 use Rattle.sd_names.specs.declared.place.Dir.TheVariants.{Root}
 use Rattle.shared_disk.specs.Content.{Content}
-use Rattle.pool_session.specs.Folders.{HasJust, IsOrderly, with_made}
+use Rattle.pool_session.specs.Folders.{HasJust, HasSome, IsOrderly, with_made}
 use Rattle.pool_session.proofs.folders.make_dirs.Given as goal
 
 -- the folders so far are there, and those that are left can be made
@@ -13,4 +13,5 @@ invariant-loop-dir g l =
     (known : List Dir) × IsOrderly known (drop l.dir-index l.dirs)
     × (with_made known (drop l.dir-index l.dirs) ≡ with_made (Root ∷ []) l.dirs)
     × (faults l.fn.disk ≤ faults l.disk)
+    × ((e : Content) → HasSome known (drop l.dir-index l.dirs) e → HasSome (Root ∷ []) l.dirs e)
     × ((d : Content) → content l.fn.disk ≡ Some d → HasJust (Root ∷ []) d → (e : Content) × (content l.disk ≡ Some e) × HasJust known e)

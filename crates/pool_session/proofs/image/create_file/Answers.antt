@@ -1,14 +1,29 @@
-use Rattle.std.proofs.Common.{◌≡◌, ◌/◌, Some, arith}
-use Rattle.shared_disk.specs.Calls.{created, synced}
-use Rattle.pool_session.proofs.FaultLemmas.{result_since}
+use Rattle.std.proofs.Common.{◌≡◌, ◌⊎◌, ◌/◌, Some, refl, subst, sym, inl, inr, arith}
+use Rattle.shared_disk.specs.Content.{Content}
+use Rattle.shared_disk.specs.Calls.{IsPut, created, synced}
+use Rattle.pool_session.proofs.FaultLemmas.{ends_since, fault_told}
+use Rattle.pool_session.proofs.ImageLemmas.{create_failed, put_twice}
 use Rattle.pool_session.proofs.image.create_file.Goals as goal
 
 pub returns-in-Ok-clause-content : goal.returns-in-Ok-clause-content
 returns-in-Ok-clause-content g c d tells folder free =
+    let place = c.args.place in
+    let fresh = created c.args.host (c.args.size / 512) in
     let made = c.in-Ok.ensures.call d tells in
-    let done = c.sync_file.ensures.content made.0 (created c.args.host (c.args.size / 512)) made.1 made.2.put.here in (
+    let put = made.2.put in
+    let done = c.sync_file.ensures.content made.0 fresh made.1 put.here in (
       done.0,
       done.1,
-      result_since (λ _. done.0.file c.args.place ≡ Some (synced c.args.host (created c.args.host (c.args.size / 512))))
-          (g.D.SharedDisk.faults c.args.disk.now) (g.D.SharedDisk.faults c.create.new.self) (g.D.SharedDisk.faults c.sync_file.new.disk) c.sync_file.result (omega arith) done.2,
+      ends_since (λ _. IsPut made.0 place (Some (synced c.args.host fresh)) done.0) (λ _. IsPut d place (Some (synced c.args.host fresh)) done.0)
+          (done.0 ≡ made.0) ((done.0 ≡ d) ⊎ IsPut d place (Some fresh) done.0)
+          (g.D.SharedDisk.faults c.args.disk.now) (g.D.SharedDisk.faults c.create.new.self) (g.D.SharedDisk.faults c.sync_file.new.disk) c.sync_file.result (omega arith)
+          (λ _ twice. put_twice d made.0 done.0 place (Some fresh) (Some (synced c.args.host fresh)) put twice)
+          (λ same. inr (subst (λ (e : Content). IsPut d place (Some fresh) e) (sym same) put)) done.2,
     )
+
+pub returns-in-Err-clause-content : goal.returns-in-Err-clause-content
+returns-in-Err-clause-content g c d tells folder free =
+    let call = c.in-Err.ensures.call d tells in
+    let failed = create_failed d call.0 c.args.host c.args.place (c.args.size / 512) c.in-Err.answer folder free call.2 in
+    let fault = fault_told (g.D.SharedDisk.faults c.args.disk.now) (g.D.SharedDisk.faults c.create.new.self) _ c.in-Err.answer c.refusal_for.result refl c.in-Err.ensures.cause failed.0 c.refusal_for.ensures in
+    (call.0, call.1, (fault, failed.1))

@@ -10,4 +10,4 @@ returns-in-Ok-clause-content g c room d flat refusals tells stands =
 pub returns-in-Err-clause-content : goal.returns-in-Err-clause-content
 returns-in-Err-clause-content g c room d flat refusals tells stands =
     let made = c.in-Err.ensures.content d tells stands in
-    (made.0, flat, made.1, tt, inr (made.2.0, (ap refused made.2.1, c.in-Err.ensures.count, refl)))
+    (made.0, flat, made.1, made.2.1, inr (made.2.0.0, (ap refused made.2.0.1, c.in-Err.ensures.count, refl)))
