@@ -7,3 +7,4 @@ pub mod CommandLemmas
 pub mod MachineLemmas
 pub mod LineLemmas
 pub mod SessionLemmas
+pub mod BoundLemmas

@@ -1,7 +1,8 @@
 -- What the words ask for, and how a session stands before its first line.
-use Rattle.std.specs.Prelude.{◌≡◌, ℕ, false, List, [], Option, Some}
+use Rattle.std.specs.Prelude.{◌≡◌, ℕ, ◌+◌, ◌≤◌, false, List, [], ◌++◌, length, Option, Some}
 use Rattle.shared_disk.specs.Content.{zero_sector}
 use Rattle.command_words.specs.Asked.{Asked, run}
+use Rattle.script_loop.specs.Ends.{most_input}
 use Rattle.script_loop.specs.declared.status.Status.{Status}
 use Rattle.script_loop.specs.declared.status.Status.TheVariants as status
 use Rattle.pool_session.specs.Run.{Flat}
@@ -12,6 +13,10 @@ use Rattle.pool_session.specs.declared.stage.Stage.TheVariants.{Off}
 abbrev pub Gives : Option Asked → Option (List ℕ) → Option (List ℕ) → Option (List ℕ) → Option (List ℕ) → Type 0
 Gives (Some (run moment lines)) before after left left' = left ≡ Some (script_of lines)
 Gives _ before after left left' = (left ≡ before) × (left' ≡ after)
+
+-- a front of the input was taken, of at most one byte more than lines are run of
+abbrev pub TakesAtMost : List ℕ → Option (List ℕ) → Type 0
+TakesAtMost input now = (taken : List ℕ) × (left : List ℕ) × (now ≡ Some left) × (input ≡ taken ++ left) × (length taken ≤ most_input + 1)
 
 -- the host is off, all sectors are zeros, and there was no reply
 abbrev pub start : ℕ → Flat

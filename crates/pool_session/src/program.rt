@@ -5,7 +5,7 @@ ghost use Rattle.command_words.specs.Asked.{Asked, asked_by, run, session};
 ghost use Rattle.command_words.specs.Words.{asked};
 ghost use Rattle.script_loop.specs.Ends.{Ends, SourceFaults, SinkFaults};
 ghost use Rattle.script_loop.specs.Script.{script_of};
-ghost use Rattle.pool_session.specs.Program.{Gives, IfRan, start};
+ghost use Rattle.pool_session.specs.Program.{Gives, IfRan, TakesAtMost, start};
 ghost use Rattle.pool_session.specs.Machine.{Stands};
 ghost use Rattle.pool_session.specs.Run.{Flat, FlatSays, flat_reply, SomeSays, some_reply};
 
@@ -42,6 +42,7 @@ pub fn vdsm<'a, S: Source, K: Sink, D: SharedDisk>(
     ensures unread { (seconds : Option ℕ) (lines : List (List ℕ)) → asked (map (λ word. word.now) words.now) ≡ Some (run seconds lines) → source.new ≡ source.old }
     ensures source_faults { SourceFaults result (S.faults source.old) (S.faults source.new) }
     ensures sink_faults { SinkFaults result (K.faults sink.old) (K.faults sink.new) }
+    ensures bounded { (input : List ℕ) → S.left source.old ≡ Some input → TakesAtMost input (S.left source.new) }
     ensures runs { IfRan result ((left : Option (List ℕ)) × (left' : Option (List ℕ)) × (refused : ℕ) × (reply : List ℕ)
         × Gives (asked (map (λ word. word.now) words.now)) (S.left source.old) (S.left source.new) left left'
         × Ends SomeSays some_reply result refused [] tt left left' (K.given sink.old) (K.given sink.new) reply tt) }
@@ -73,6 +74,7 @@ fn run_command<S: Source, K: Sink, D: SharedDisk>(
     ensures unread { (seconds : Option ℕ) (lines : List (List ℕ)) → asked_by command.now ≡ run seconds lines → source.new ≡ source.old }
     ensures source_faults { SourceFaults result (S.faults source.old) (S.faults source.new) }
     ensures sink_faults { SinkFaults result (K.faults sink.old) (K.faults sink.new) }
+    ensures bounded { (input : List ℕ) → S.left source.old ≡ Some input → TakesAtMost input (S.left source.new) }
     ensures runs { IfRan result ((left : Option (List ℕ)) × (left' : Option (List ℕ)) × (refused : ℕ) × (reply : List ℕ)
         × Gives (Some (asked_by command.now)) (S.left source.old) (S.left source.new) left left'
         × Ends SomeSays some_reply result refused [] tt left left' (K.given sink.old) (K.given sink.new) reply tt) }
@@ -122,6 +124,7 @@ fn run_session<S: Source, K: Sink, D: SharedDisk>(
     ensures untouched { result ≡ Status.Memory → (source.new ≡ source.old) × (sink.new ≡ sink.old) × (disk.new ≡ disk.old) }
     ensures source_faults { SourceFaults result (S.faults source.old) (S.faults source.new) }
     ensures sink_faults { SinkFaults result (K.faults sink.old) (K.faults sink.new) }
+    ensures bounded { (input : List ℕ) → S.left source.old ≡ Some input → TakesAtMost input (S.left source.new) }
     ensures runs { IfRan result ((refused : ℕ) × (reply : List ℕ)
         × Ends SomeSays some_reply result refused [] tt (S.left source.old) (S.left source.new) (K.given sink.old) (K.given sink.new) reply tt) }
     ensures ends { (d : Content) → D.content disk.old ≡ Some d → IsEmpty d → IfRan result ((refused : ℕ) × (e : Content) × (t : Flat)

@@ -2,6 +2,7 @@ use Rattle.std.proofs.Common.{◌≡◌, ℕ, List, Option, Some, map, refl, sym
 use Rattle.command_words.specs.Asked.{Asked, asked_by, run, session}
 use Rattle.script_loop.specs.Script.{script_of}
 use Rattle.pool_session.specs.Program.{Gives}
+use Rattle.pool_session.proofs.BoundLemmas.{none_taken}
 use Rattle.pool_session.proofs.SessionLemmas.{ran_map}
 use Rattle.pool_session.proofs.program.run_command.Goals as goal
 
@@ -41,3 +42,6 @@ returns-in-Run-clause-ends g c d tells empty =
     let same = ap (λ lines. script_of (map (λ line. line.now) lines)) c.deref.ensures.value in
     ran_map c.run_lines.result _ _ (c.run_lines.ensures.ends d tells empty)
     (λ r. (r.0, r.1, r.2, r.3, r.4, run_gives (asked_by c.args.command.now) c.in-Run.moment texts (left c.args.source.now) (left c.args.source.now) r.0 r.1 (ap asked_by c.in-Run.is) (r.5 ∙ ap (λ (xs : List ℕ). Some xs) same), r.6, r.7, r.8, r.9))
+
+pub returns-in-Run-clause-bounded : goal.returns-in-Run-clause-bounded
+returns-in-Run-clause-bounded g c input tells = none_taken (g.S.Source.left c.args.source.now) (g.S.Source.left c.args.source.now) input refl tells

@@ -1,4 +1,4 @@
-use Rattle.std.proofs.Common.{[], false, sym, ap, subst}
+use Rattle.std.proofs.Common.{[], false, refl, sym, ap, subst}
 use Rattle.script_loop.specs.Ends.{Ends}
 use Rattle.script_loop.specs.declared.status.Status.{Status}
 use Rattle.shared_disk.specs.Content.{zero_sector}
@@ -7,6 +7,7 @@ use Rattle.pool_session.specs.Program.{start}
 use Rattle.pool_session.specs.RunsAt.{Reached, state_at}
 use Rattle.pool_session.specs.Session.{SessionSays, kept_reply}
 use Rattle.pool_session.specs.declared.stage.Stage.{Stage}
+use Rattle.pool_session.proofs.BoundLemmas.{none_taken, ends_bounded}
 use Rattle.pool_session.proofs.SessionLemmas.{never_short, some_ends, flat_ends, if_ran}
 use Rattle.pool_session.proofs.program.run_session.Goals as goal
 
@@ -44,3 +45,14 @@ returns-in-Ok-Ok-clause-ends g c d tells empty =
     ended.ensures.ends (start (faults c.args.disk.now)) (λ n. zero_sector) false reached
     (ap (λ (stage : Stage). state_at stage (λ n. zero_sector) (faults c.args.disk.now) false) off) c.in-Ok-Ok.ensures.reply in
     if_ran ended.result.status _ (ended.result.refused, ran.0, ran.1, ran.2, ran.3, ran.4, ran.5)
+
+pub returns-in-Ok-Ok-clause-bounded : goal.returns-in-Ok-Ok-clause-bounded
+returns-in-Ok-Ok-clause-bounded g c =
+    let left = g.S.Source.left in
+    let given = g.K.Sink.given in
+    let ended = c.run_script-ended in
+    ends_bounded (SessionSays g.D.SharedDisk.content g.D.SharedDisk.faults) kept_reply ended.result.status ended.result.refused c.in-Ok-Ok.session c.args.disk.now (left c.args.source.now) (left ended.new.source) (given c.args.sink.now) (given ended.new.sink)
+    ended.new.runner ended.new.disk ended.ensures.ends
+
+pub returns-in_default-clause-bounded : goal.returns-in_default-clause-bounded
+returns-in_default-clause-bounded g c input tells = none_taken (g.S.Source.left c.args.source.now) (g.S.Source.left c.args.source.now) input refl tells
