@@ -1,6 +1,6 @@
 -- Folders that are made one after the other.
 use Rattle.std.proofs.Math.Seq.{drop-cons}
-use Rattle.std.proofs.Common.{ℕ, ◌+◌, ◌<◌, length, drop, get_or, add-one, ◌≡◌, ◌⊎◌, List, [], ◌∷◌, true, Err, refl, sym, subst, ◌∙◌, inl, inr}
+use Rattle.std.proofs.Common.{ℕ, ◌+◌, ◌<◌, length, drop, get_or, add-one, ◌≡◌, ◌⊎◌, List, [], ◌∷◌, Bool, true, false, Err, ap, refl, sym, subst, ◌∙◌, inl, inr}
 use Rattle.std.proofs.lemmas.Bool.{false≢true}
 use Rattle.sd_names.specs.declared.place.Dir.{Dir}
 use Rattle.sd_names.specs.declared.place.Dir.TheVariants.{Root}
@@ -34,6 +34,17 @@ dir_failed dirs dir d e NoFile has above new call = absurd (false≢true (sym ca
 dir_failed dirs dir d e Exists has above new call = absurd (false≢true (sym (has.folders.only dir new) ∙ call.2))
 dir_failed dirs dir d e OutOfFile has above new call = absurd call
 dir_failed dirs dir d e NotEmpty has above new call = absurd call
+
+-- a folder that isn't there wasn't there before another was made
+pub not_gone : (d e : Content) (dir q : Dir) (b : Bool) → d.dir q ≡ b → IsDirMade d dir e → e.dir q ≡ false → d.dir q ≡ false
+not_gone d e dir q false was made absent = was
+not_gone d e dir q true was made absent = absurd (false≢true (sym absent ∙ made.put.others q (λ is. false≢true (sym made.free ∙ ap d.dir (sym is) ∙ was)) ∙ was))
+
+-- the folder that was made wasn't there at first, nor were those behind it
+pub among_rest : (first d e : Content) (dir : Dir) (dirs : List Dir) (q : Dir) → IsDirMade d dir e → ((p : Dir) → d.dir p ≡ false → first.dir p ≡ false)
+    → ((p : Dir) → IsAmong dirs p → first.dir p ≡ false) → IsAmong (dir ∷ dirs) q → first.dir q ≡ false
+among_rest first d e dir dirs q made back rest (inl is) = back q (ap d.dir is ∙ made.free)
+among_rest first d e dir dirs q made back rest (inr among) = rest q among
 
 -- none of the others was made
 pub some_none : (known dirs : List Dir) (d : Content) → HasJust known d → HasSome known dirs d

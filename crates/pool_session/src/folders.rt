@@ -1,8 +1,8 @@
 // The folders of a domain.
-ghost use Rattle.std.specs.Prelude.{◌≡◌, ◌≢◌, ◌≤◌, ◌∷◌, [], List, MatchResult};
-ghost use Rattle.sd_names.specs.declared.place.Dir.TheVariants.{Root};
+ghost use Rattle.std.specs.Prelude.{◌≡◌, ◌≢◌, ◌≤◌, ◌∷◌, [], List, Some, false, IfOk, MatchResult};
+ghost use Rattle.sd_names.specs.declared.place.Dir.TheVariants.{Root, Domain};
 ghost use Rattle.shared_disk.specs.Content.{Content, IsEmpty};
-ghost use Rattle.shared_disk.specs.Calls.{parent_of};
+ghost use Rattle.shared_disk.specs.Calls.{IsDirMade, Told, parent_of};
 ghost use Rattle.pool_session.specs.Fault.{IsFault};
 ghost use Rattle.pool_session.specs.Folders.{HasJust, HasSome, HasDomain, HasPartOfDomain, IsAmong, IsOrderly, with_made};
 
@@ -10,10 +10,11 @@ use sd_names::{Dir, HostId, Id, Refusal};
 use shared_disk::{SharedDisk, refusal_for};
 
 /// Makes a folder. Where the disk tells what it holds, the folder above is there and this one isn't, it is refused only
-/// for a fault of the disk, and is there or not then.
+/// for a fault of the disk, and is there or not then. One that is there isn't made again.
 pub fn make_dir<D: SharedDisk>(host: HostId, dir: Dir, disk: &mut D) -> Result<(), Refusal>
     requires { dir ≢ Root }
     ensures count { D.faults disk.old ≤ D.faults disk.new }
+    ensures made { IfOk result (λ _. Told (D.content disk.old) (D.content disk.new) (λ d e. IsDirMade d dir e)) }
     ensures content { (d : Content) (dirs : List Dir) → D.content disk.old ≡ Some d → HasJust dirs d
         → IsAmong dirs (parent_of dir) → (IsAmong dirs dir → ⊥)
         → (e : Content) × (D.content disk.new ≡ Some e)
@@ -29,6 +30,7 @@ pub fn make_dir<D: SharedDisk>(host: HostId, dir: Dir, disk: &mut D) -> Result<(
 fn make_dirs<D: SharedDisk>(host: HostId, dirs: &[Dir], disk: &mut D) -> Result<(), Refusal>
     requires { IsOrderly (Root ∷ []) dirs.now }
     ensures count { D.faults disk.old ≤ D.faults disk.new }
+    ensures new { IfOk result (λ _. (d : Content) → D.content disk.old ≡ Some d → (q : Dir) → IsAmong dirs.now q → d.dir q ≡ false) }
     ensures content { (d : Content) → D.content disk.old ≡ Some d → HasJust (Root ∷ []) d
         → (e : Content) × (D.content disk.new ≡ Some e)
         × MatchResult result (λ _. HasJust (with_made (Root ∷ []) dirs.now) e) (λ refusal. IsFault (D.faults disk.old) (D.faults disk.new) refusal × HasSome (Root ∷ []) dirs.now e) }
@@ -39,9 +41,10 @@ fn make_dirs<D: SharedDisk>(host: HostId, dirs: &[Dir], disk: &mut D) -> Result<
     Ok(())
 }
 
-/// Makes the folders of a domain in an empty folder. A fault leaves the first so many.
+/// Makes the folders of a domain, none of which is there, in an empty folder. A fault leaves the first so many.
 pub fn make_folders<D: SharedDisk>(host: HostId, sd: Id, disk: &mut D) -> Result<(), Refusal>
     ensures count { D.faults disk.old ≤ D.faults disk.new }
+    ensures new { IfOk result (λ _. (d : Content) → D.content disk.old ≡ Some d → d.dir (Domain sd) ≡ false) }
     ensures content { (d : Content) → D.content disk.old ≡ Some d → IsEmpty d
         → (e : Content) × (D.content disk.new ≡ Some e)
         × MatchResult result (λ _. HasDomain sd e) (λ refusal. IsFault (D.faults disk.old) (D.faults disk.new) refusal × HasPartOfDomain sd e) }

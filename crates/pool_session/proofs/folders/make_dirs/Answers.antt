@@ -1,8 +1,8 @@
-use Rattle.std.proofs.Common.{◌≡◌, List, Err, sym, ◌∙◌, ap, subst, inr, arith, rules}
+use Rattle.std.proofs.Common.{◌≡◌, List, Err, sym, ◌∙◌, ap, subst, inr, refl, arith, rules}
 use Rattle.sd_names.specs.declared.place.Dir.{Dir}
-use Rattle.pool_session.specs.Folders.{HasSome, with_made}
+use Rattle.pool_session.specs.Folders.{HasSome, IsAmong, with_made}
 use Rattle.pool_session.proofs.FaultLemmas.{fault_since}
-use Rattle.pool_session.proofs.FolderLemmas.{left_at, some_one}
+use Rattle.pool_session.proofs.FolderLemmas.{among_rest, left_at, not_gone, some_one}
 use Rattle.pool_session.proofs.folders.make_dirs.Goals as goal
 
 pub loop-dir-preserved : goal.loop-dir-preserved
@@ -19,6 +19,14 @@ loop-dir-preserved g c =
           let before = c.loop-dir.invariant.5 d tells root in
           let after = c.in_ok-make_dir.ensures.content before.0 known before.1 before.2 orderly.1 orderly.2 in
           (after.0, after.1, after.2),
+      λ d tells.
+          let before = c.loop-dir.invariant.6 d tells in
+          let after = c.in_ok-make_dir.ensures.made before.0 before.1 in (
+            after.0,
+            after.1,
+            λ q absent. before.2 q (not_gone before.0 after.0 _ q (before.0.dir q) refl after.2 absent),
+            λ rest q among. before.3 (λ p among_left. among_rest d before.0 after.0 _ _ p after.2 before.2 rest (subst (λ (dirs : List Dir). IsAmong dirs p) left among_left)) q among,
+          ),
     )
 
 pub returns-in_err-make_dir-clause-content : goal.returns-in_err-make_dir-clause-content

@@ -1,8 +1,8 @@
-use Rattle.std.proofs.Common.{◌≡◌, ◌≤◌, ◌∷◌, [], List, Some, drop}
+use Rattle.std.proofs.Common.{◌≡◌, ◌≤◌, ◌∷◌, [], List, Some, drop, false}
 use Rattle.sd_names.specs.declared.place.Dir.{Dir}
 use Rattle.sd_names.specs.declared.place.Dir.TheVariants.{Root}
 use Rattle.shared_disk.specs.Content.{Content}
-use Rattle.pool_session.specs.Folders.{HasJust, HasSome, IsOrderly, with_made}
+use Rattle.pool_session.specs.Folders.{HasJust, HasSome, IsAmong, IsOrderly, with_made}
 use Rattle.pool_session.proofs.folders.make_dirs.Given as goal
 
 -- the folders so far are there, and those that are left can be made
@@ -15,3 +15,6 @@ invariant-loop-dir g l =
     × (faults l.fn.disk ≤ faults l.disk)
     × ((e : Content) → HasSome known (drop l.dir-index l.dirs) e → HasSome (Root ∷ []) l.dirs e)
     × ((d : Content) → content l.fn.disk ≡ Some d → HasJust (Root ∷ []) d → (e : Content) × (content l.disk ≡ Some e) × HasJust known e)
+    × ((d : Content) → content l.fn.disk ≡ Some d → (e : Content) × (content l.disk ≡ Some e)
+    × ((q : Dir) → e.dir q ≡ false → d.dir q ≡ false)
+    × (((q : Dir) → IsAmong (drop l.dir-index l.dirs) q → d.dir q ≡ false) → (q : Dir) → IsAmong l.dirs q → d.dir q ≡ false))
