@@ -103,10 +103,12 @@ module _ {M D : Type 0} (says : M → D → ℕ → List ℕ → LineOutcome →
     finish_ends WriteFault a b c fin = record {
       taken = bytes;
       more = [];
+      rest = [];
       took = took_as left left' bytes (bytes ++ []) (sym (append-nil bytes)) took;
       bound = bound;
       few = omega (arith, bound);
       ran = fin;
+      last = λ e. (refl, spent);
     }
     finish_ends ReadFault a b c fin = absurd (a refl)
     finish_ends TooLong a b c fin = absurd (b refl)

@@ -56,9 +56,9 @@ module _ {M D N E : Type 0} (says : M → D → ℕ → List ℕ → LineOutcome
           next.3,
         )
 
-    broken_follow : (bytes : List ℕ) (given given' : Option (List ℕ)) (refused : ℕ) → IsBroken says reply_of m d bytes given given' refused m' d'
-        → (n' : N) × (e' : E) × IsBroken says' reply_of' n e bytes given given' refused n' e' × Stands m' d' n' e'
-    broken_follow bytes given given' refused ran =
+    broken_follow : (rest bytes : List ℕ) (given given' : Option (List ℕ)) (refused : ℕ) → IsBroken says reply_of m d rest bytes given given' refused m' d'
+        → (n' : N) × (e' : E) × IsBroken says' reply_of' n e rest bytes given given' refused n' e' × Stands m' d' n' e'
+    broken_follow rest bytes given given' refused ran =
         let mid = runs_follow 0 m ran.mid d ran.disk n e ran.lines ran.outcomes ran.text stands ran.runs in
         let next = line_follows (length ran.lines + 1) ran.mid m' ran.disk d' mid.0 mid.1 ran.last ran.outcome ran.reply mid.3 ran.runs_last in (
           next.0,
@@ -66,7 +66,6 @@ module _ {M D N E : Type 0} (says : M → D → ℕ → List ℕ → LineOutcome
           record {
             lines = ran.lines;
             last = ran.last;
-            rest = ran.rest;
             outcomes = ran.outcomes;
             outcome = ran.outcome;
             text = ran.text;
@@ -107,8 +106,8 @@ module _ {M D N E : Type 0} (says : M → D → ℕ → List ℕ → LineOutcome
           let next = ended_follow ends.taken given given' refused ends.ran in
           (next.0, next.1, record { taken = ends.taken; byte = ends.byte; took = ends.took; bound = ends.bound; ran = next.2 }, next.3)
       ends_follow WriteFault ends =
-          let next = broken_follow ends.taken given given' refused ends.ran in
-          (next.0, next.1, record { taken = ends.taken; more = ends.more; took = ends.took; bound = ends.bound; few = ends.few; ran = next.2 }, next.3)
+          let next = broken_follow ends.rest ends.taken given given' refused ends.ran in
+          (next.0, next.1, record { taken = ends.taken; more = ends.more; rest = ends.rest; last = ends.last; took = ends.took; bound = ends.bound; few = ends.few; ran = next.2 }, next.3)
       ends_follow Words ends = absurd ends
 
 module _ {M D : Type 0} (says : M → D → ℕ → List ℕ → LineOutcome → M → D → Type 0) (reply_of : M → List ℕ)

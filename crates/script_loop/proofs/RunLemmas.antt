@@ -163,11 +163,10 @@ module _ {M D : Type 0} (says : M → D → ℕ → List ℕ → LineOutcome →
       }
 
       -- the sink has failed in the reply to a line
-      pub breaks : (rest : List ℕ) → EndsLine rest → IsCut given' given'' reply → IsBroken says reply_of m d (bytes ++ (first ++ rest)) given given'' tally'.refused m' d'
+      pub breaks : (rest : List ℕ) → EndsLine rest → IsCut given' given'' reply → IsBroken says reply_of m d rest (bytes ++ (first ++ rest)) given given'' tally'.refused m' d'
       breaks rest ends cut = record {
         lines = came.lines;
         last = came.last ++ first;
-        rest = rest;
         outcomes = came.outcomes;
         outcome = outcome;
         text = came.text;

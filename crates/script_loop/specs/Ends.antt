@@ -39,17 +39,16 @@ pub record RanAll {M D : Type 0} (says : M → D → ℕ → List ℕ → LineOu
   pub tells : refused ≡ refusals outcomes
   pub tells_short : short ≡ shortages outcomes
 
--- what follows a line: its LF, or nothing at the end
+-- what follows a line: its LF, or nothing
 abbrev pub EndsLine : List ℕ → Type 0
 EndsLine [] = Unit {0}
 EndsLine (byte ∷ bytes) = byte ≡ 10
 
--- Some lines of these bytes have run and their text was given; then one more has run, and a front of its text was given that
--- lacks at least one byte.
-pub record IsBroken {M D : Type 0} (says : M → D → ℕ → List ℕ → LineOutcome → M → D → Type 0) (reply_of : M → List ℕ) (m : M) (d : D) (bytes : List ℕ) (given given' : Option (List ℕ)) (refused : ℕ) (m' : M) (d' : D) : Type 0 where
+-- Some lines of these bytes have run and their text was given; then one more has run, behind which this follows, and a front of
+-- its text was given that lacks at least one byte.
+pub record IsBroken {M D : Type 0} (says : M → D → ℕ → List ℕ → LineOutcome → M → D → Type 0) (reply_of : M → List ℕ) (m : M) (d : D) (rest bytes : List ℕ) (given given' : Option (List ℕ)) (refused : ℕ) (m' : M) (d' : D) : Type 0 where
   pub lines : List (List ℕ)
   pub last : List ℕ
-  pub rest : List ℕ
   pub outcomes : List LineOutcome
   pub outcome : LineOutcome
   pub text : List ℕ
@@ -92,14 +91,17 @@ pub record IsTooLong {M D : Type 0} (says : M → D → ℕ → List ℕ → Lin
   pub bound : length taken ≡ most_input
   pub ran : RanEnded says reply_of m d taken given given' refused m' d'
 
--- A write has failed; at most one byte more was taken than lines are run of.
+-- A write has failed; at most one byte more was taken than lines are run of. Behind the line whose reply was cut its LF follows,
+-- or the input has ended.
 pub record FailsOut {M D : Type 0} (says : M → D → ℕ → List ℕ → LineOutcome → M → D → Type 0) (reply_of : M → List ℕ) (refused : ℕ) (m : M) (d : D) (left left' given given' : Option (List ℕ)) (m' : M) (d' : D) : Type 0 where
   pub taken : List ℕ
   pub more : List ℕ
+  pub rest : List ℕ
   pub took : Took left left' (taken ++ more)
   pub bound : length taken ≤ most_input
   pub few : length taken + length more ≤ most_input + 1
-  pub ran : IsBroken says reply_of m d taken given given' refused m' d'
+  pub ran : IsBroken says reply_of m d rest taken given given' refused m' d'
+  pub last : rest ≡ [] → (more ≡ []) × IsSpent left left'
 
 -- What has happened by the status: `left` and `left'` are what the source has told before and tells behind the run, `given` and
 -- `given'` the sink.
@@ -114,7 +116,7 @@ Ends says reply_of status.Words refused m d left left' given given' m' d' = ⊥
 
 -- how the last line of the input ends a script
 abbrev pub Finishes : {M D : Type 0} → (M → D → ℕ → List ℕ → LineOutcome → M → D → Type 0) → (M → List ℕ) → Status → ℕ → M → D → List ℕ → Option (List ℕ) → Option (List ℕ) → M → D → Type 0
-Finishes says reply_of status.WriteFault refused m d bytes given given' m' d' = IsBroken says reply_of m d bytes given given' refused m' d'
+Finishes says reply_of status.WriteFault refused m d bytes given given' m' d' = IsBroken says reply_of m d [] bytes given given' refused m' d'
 Finishes says reply_of ends refused m d bytes given given' m' d' = (short : ℕ) × RanAll says reply_of m d bytes given given' refused short m' d' × (ends ≡ status_of refused short)
 
 -- the counts of faults by the status: each is as it was, but for the stream that has failed

@@ -121,7 +121,7 @@ impl Session {
             → Progress L.says L.reply_of m d bytes given (K.given sink.old) self.old.line self.old.tally runner.old disk.old
             → MatchResult result
             (λ _. Progress L.says L.reply_of m d (bytes ++ piece.now) given (K.given sink.new) self.new.line self.new.tally runner.new disk.new)
-            (λ _. IsBroken L.says L.reply_of m d (bytes ++ piece.now) given (K.given sink.new) self.new.tally.refused runner.new disk.new) }
+            (λ _. (next : List ℕ) × IsBroken L.says L.reply_of m d (10 ∷ next) (bytes ++ piece.now) given (K.given sink.new) self.new.tally.refused runner.new disk.new) }
     {
         let mut rest = piece;
         while let Some((first, next)) = split_line(rest) {
@@ -149,7 +149,7 @@ impl Session {
             → Progress L.says L.reply_of m d bytes given (K.given sink.old) self.old.line self.old.tally runner.old disk.old
             → MatchResult result
             (λ _. RanAll L.says L.reply_of m d bytes given (K.given sink.new) self.new.tally.refused self.new.tally.short runner.new disk.new)
-            (λ _. IsBroken L.says L.reply_of m d bytes given (K.given sink.new) self.new.tally.refused runner.new disk.new) }
+            (λ _. IsBroken L.says L.reply_of m d [] bytes given (K.given sink.new) self.new.tally.refused runner.new disk.new) }
     {
         if self.line.is_empty() {
             return Ok(());

@@ -1,4 +1,4 @@
-use Rattle.std.proofs.Common.{◌≡◌, ◌≤◌, ◌++◌, ℕ, List, [], take, drop, length, refl, ◌∙◌, subst, arith, length-append}
+use Rattle.std.proofs.Common.{◌≡◌, ◌≤◌, ◌++◌, ℕ, List, [], ◌∷◌, take, drop, length, refl, ◌∙◌, subst, arith, length-append}
 use Rattle.script_loop.specs.Stream.{Took}
 use Rattle.script_loop.specs.declared.status.Status.TheVariants.{ReadFault, TooLong, WriteFault}
 use Rattle.script_loop.proofs.EndLemmas.{took_still, took_piece, took_as, spent_since, extra_size, one_of, ends_told, finish_ends}
@@ -100,14 +100,17 @@ returns-in-Err-feed-clause-ends g c =
     let few : kept ≤ count = omega (arith, c.min-kept.ensures) in
     let fits : count ≤ length piece = omega (arith, c.in-Ok.ensures.bound, c.in-Ok.ensures.room) in
     let none : length came.1 ≡ 0 = omega (arith, inv.1, came.2, came.3, c.loop-session-test.true) in
+    let broken = c.in-Err-feed.ensures.fed c.args.runner.now c.args.disk.now came.0 (given c.args.sink.now) came.5 in
     ends_told g.L.LineRunner.says g.L.LineRunner.reply_of c.args.runner.now c.feed.new.runner c.args.disk.now c.feed.new.disk WriteFault c.told-in-Err-feed.result.status c.feed.new.self.tally.refused c.told-in-Err-feed.result.refused
     (left c.args.source.now) (left c.read.new.source) (given c.args.sink.now) (given c.feed.new.sink) c.told-in-Err-feed.ensures.status c.told-in-Err-feed.ensures.refused (record {
       taken = came.0 ++ front;
       more = drop kept (take count piece);
+      rest = 10 ∷ broken.0;
       took = took_piece (left c.args.source.now) (left c.loop-session.source) (left c.read.new.source) came.0 came.1 piece front count kept none came.4 c.in-Ok.ensures.took few fits c.front.ensures.front;
       bound = omega (arith, length-append came.0 front, c.front.ensures.length, c.min-kept.ensures, came.2, inv.1, c.loop-session-test.true);
       few = omega (arith, length-append came.0 front, c.front.ensures.length, extra_size piece count kept few fits, came.2, inv.1, c.in-Ok.ensures.most, c.loop-session-test.true);
-      ran = c.in-Err-feed.ensures.fed c.args.runner.now c.args.disk.now came.0 (given c.args.sink.now) came.5;
+      ran = broken.1;
+      last = λ e. absurd cc;
     })
 
 pub returns-clause-ends : goal.returns-clause-ends

@@ -59,12 +59,14 @@ returns-in-Err-clause-fed g c m d bytes given came =
     let reply_of = g.L.LineRunner.reply_of in
     let given_by = g.K.Sink.given in
     let at = inv.4.2 m d bytes given came in
-    let ran = c.in-Err.ensures.ran (at.last ++ first) (c.push.ensures at.last at.holds) in
-    subst (λ (xs : List ℕ). IsBroken says reply_of m d xs given (given_by c.end_line.new.sink) c.end_line.new.self.tally.refused c.end_line.new.runner c.end_line.new.disk)
-    (rest_of_piece bytes c.args.piece.now front (first ++ 10 ∷ next) (inv.4.1 ∙ ap (λ (xs : List ℕ). front ++ xs) split.0))
-    (breaks says reply_of m c.loop-first.runner d c.loop-first.disk (bytes ++ front) given (given_by c.loop-first.sink) c.loop-first.self.line c.loop-first.self.tally at
-    first ran.1 ran.0 c.end_line.new.runner c.end_line.new.disk (given_by c.end_line.new.sink) c.end_line.new.self.tally split.1 ran.2 ran.3
-    (10 ∷ next) refl ran.4)
+    let ran = c.in-Err.ensures.ran (at.last ++ first) (c.push.ensures at.last at.holds) in (
+      next,
+      subst (λ (xs : List ℕ). IsBroken says reply_of m d (10 ∷ next) xs given (given_by c.end_line.new.sink) c.end_line.new.self.tally.refused c.end_line.new.runner c.end_line.new.disk)
+          (rest_of_piece bytes c.args.piece.now front (first ++ 10 ∷ next) (inv.4.1 ∙ ap (λ (xs : List ℕ). front ++ xs) split.0))
+          (breaks says reply_of m c.loop-first.runner d c.loop-first.disk (bytes ++ front) given (given_by c.loop-first.sink) c.loop-first.self.line c.loop-first.self.tally at
+          first ran.1 ran.0 c.end_line.new.runner c.end_line.new.disk (given_by c.end_line.new.sink) c.end_line.new.self.tally split.1 ran.2 ran.3
+          (10 ∷ next) refl ran.4),
+    )
 
 pub returns-clause-fed : goal.returns-clause-fed
 returns-clause-fed g c m d bytes given came =

@@ -25,7 +25,7 @@ returns-in-Err-clause-finished g c m d bytes given came =
     let given_by = g.K.Sink.given in
     let holds : Holds c.args.self.now.line (came.last ++ []) = subst (λ (xs : List ℕ). Holds c.args.self.now.line xs) (sym (append-nil came.last)) came.holds in
     let ran = c.in-Err.ensures.ran (came.last ++ []) holds in
-    subst (λ (xs : List ℕ). IsBroken says reply_of m d xs given (given_by c.end_line.new.sink) c.end_line.new.self.tally.refused c.end_line.new.runner c.end_line.new.disk)
+    subst (λ (xs : List ℕ). IsBroken says reply_of m d [] xs given (given_by c.end_line.new.sink) c.end_line.new.self.tally.refused c.end_line.new.runner c.end_line.new.disk)
     (append-nil bytes)
     (breaks says reply_of m c.args.runner.now d c.args.disk.now bytes given (given_by c.args.sink.now) c.args.self.now.line c.args.self.now.tally came
     [] ran.1 ran.0 c.end_line.new.runner c.end_line.new.disk (given_by c.end_line.new.sink) c.end_line.new.self.tally (All-nil (λ byte. byte ≢ 10)) ran.2 ran.3
