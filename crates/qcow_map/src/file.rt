@@ -1,10 +1,10 @@
 // The file that came in, on a disk in memory.
 ghost use Rattle.std.specs.Prelude.{◌≡◌, ◌%◌, OnOk, length};
 
+use memory_disk::Memory;
 use qcow_format::Header;
 use qcow_layer::{Layer, Opening};
 use sd_names::{Dir, HostId, Id, Name, NoMemory, Place, Refusal, Turn};
-use memory_disk::Memory;
 use std::alloc::{AllocError, Global};
 
 /// The longest file that is taken, in bytes. It bounds the memory: the file, the disk's copy of it, and the room that the

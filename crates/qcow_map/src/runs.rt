@@ -1,9 +1,9 @@
 // The walk over a layer's clusters.
 use crate::run::{Run, add_run};
+use memory_disk::Memory;
 use qcow_format::Entry;
 use qcow_layer::{Layer, Looked, Looking};
 use sd_names::{HostId, LayerFault, Refusal, Turn};
-use memory_disk::Memory;
 use std::alloc::Global;
 
 // The virtual disk: its size, and that of its clusters, in bytes.

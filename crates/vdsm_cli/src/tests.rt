@@ -1,8 +1,8 @@
 // Streams that fail in mid-stream, and the program's words and moment.
 use crate::std_stream::{StdSink, StdSource};
 use crate::words;
-use sd_names::Failed;
 use script_loop::{Sink, Source};
+use sd_names::Failed;
 use std::io;
 use std::io::{ErrorKind, Read, Write};
 use std::test::Fail;
