@@ -189,163 +189,182 @@ fn sectors_and_their_bytes(rt: HostRuntime) {
     }
 }
 
+// A free lease, one of the last version, a task's, and the role as another host has it.
+const FREE: Short = Short::Free(4, IMAGE);
+
+const LATEST: Short = Short::Free(LAST, IMAGE);
+
+const TASK: Short = Short::Task(3, 4, IMAGE);
+
+const ROLE: Short = Short::Guest(3, 4, Id::ZERO);
+
+const GUEST: Call = Call::Take(Kind::Guest);
+
+// The sector's number, what was read there and what stands there, the call, its refusal, and what stands there after it.
+type Row = (u16, Short, Short, Call, u16, Short);
+
+const ROWS: [Row; 24] = [
+    (5, FREE, FREE, GUEST, 0, Short::Guest(1, 5, IMAGE)),
+    (
+        5,
+        FREE,
+        FREE,
+        Call::Take(Kind::Task),
+        0,
+        Short::Task(1, 5, IMAGE),
+    ),
+    (5, LATEST, LATEST, GUEST, 0, Short::Guest(1, LAST, IMAGE)),
+    (
+        5,
+        Short::Empty,
+        Short::Empty,
+        Call::Take(Kind::Task),
+        0,
+        Short::Task(1, 1, IMAGE),
+    ),
+    (5, Short::Empty, Short::Empty, GUEST, 50, Short::Empty),
+    (
+        5,
+        Short::Guest(1, 4, IMAGE),
+        Short::Guest(1, 4, IMAGE),
+        GUEST,
+        0,
+        Short::Guest(1, 5, IMAGE),
+    ),
+    (
+        5,
+        Short::Guest(3, 4, IMAGE),
+        Short::Guest(3, 4, IMAGE),
+        GUEST,
+        0,
+        Short::Guest(1, 5, IMAGE),
+    ),
+    (
+        5,
+        Short::Guest(2, 4, IMAGE),
+        Short::Guest(2, 4, IMAGE),
+        GUEST,
+        52,
+        Short::Guest(2, 4, IMAGE),
+    ),
+    (5, TASK, TASK, Call::Take(Kind::Task), 52, TASK),
+    (
+        5,
+        FREE,
+        Short::Free(6, IMAGE),
+        GUEST,
+        52,
+        Short::Free(6, IMAGE),
+    ),
+    (
+        5,
+        FREE,
+        Short::Guest(2, 5, IMAGE),
+        GUEST,
+        52,
+        Short::Guest(2, 5, IMAGE),
+    ),
+    (
+        5,
+        FREE,
+        Short::Free(4, OTHER),
+        GUEST,
+        50,
+        Short::Free(4, OTHER),
+    ),
+    (5, FREE, Short::Empty, GUEST, 50, Short::Empty),
+    (
+        0,
+        Short::Empty,
+        Short::Empty,
+        GUEST,
+        0,
+        Short::Guest(1, 1, Id::ZERO),
+    ),
+    (0, ROLE, ROLE, GUEST, 0, Short::Guest(1, 5, Id::ZERO)),
+    (
+        0,
+        Short::Guest(2, 4, Id::ZERO),
+        Short::Guest(2, 4, Id::ZERO),
+        GUEST,
+        41,
+        Short::Guest(2, 4, Id::ZERO),
+    ),
+    (0, Short::Empty, ROLE, GUEST, 43, ROLE),
+    (
+        0,
+        Short::Empty,
+        Short::Free(4, Id::ZERO),
+        GUEST,
+        42,
+        Short::Free(4, Id::ZERO),
+    ),
+    (
+        5,
+        FREE,
+        FREE,
+        Call::Release(Short::Guest(1, 5, IMAGE)),
+        0,
+        Short::Free(5, IMAGE),
+    ),
+    (
+        5,
+        FREE,
+        FREE,
+        Call::Release(Short::Guest(9, 6, IMAGE)),
+        41,
+        Short::Guest(9, 6, IMAGE),
+    ),
+    (5, FREE, FREE, Call::Clear, 0, Short::Empty),
+    (5, TASK, TASK, Call::FreeTask, 0, Short::Free(4, IMAGE)),
+    (5, TASK, TASK, Call::EmptyTask, 0, Short::Empty),
+    (
+        5,
+        TASK,
+        Short::Free(4, IMAGE),
+        Call::EmptyTask,
+        41,
+        Short::Free(4, IMAGE),
+    ),
+];
+
+// Whether a call has the refusal of its row, and leaves the sector as the row says.
+fn row_holds(alloc: Global, host: HostId, up: &UpSet, row: Row) -> Result<bool, NoMemory> {
+    let (slot, read, there, call, refusal, left) = row;
+    let mut disk = make_leases(alloc, host, u64::MAX)?;
+    if put(&mut disk, host, slot, there).is_err() {
+        return Ok(false);
+    }
+    let got = make(host, up, slot, sector(read), call, &mut disk);
+    Ok(got == refusal && stands(&mut disk, host, slot) == Some(sector(left)))
+}
+
 #[test]
 fn each_call(rt: HostRuntime) -> Result<(), Fail> {
     let host = HostId::new(1).ok_or("1")?;
     let mut up = UpSet::new();
     up.add(host);
     up.add(HostId::new(2).ok_or("2")?);
-    let free = Short::Free(4, IMAGE);
-    let last = Short::Free(LAST, IMAGE);
-    let task = Short::Task(3, 4, IMAGE);
-    let role = Short::Guest(3, 4, Id::ZERO);
-    let guest = Call::Take(Kind::Guest);
-    let rows = [
-        // The sector's number, what was read there and what stands there, the call, its refusal, and what stands there
-        // after it.
-        (5, free, free, guest, 0, Short::Guest(1, 5, IMAGE)),
-        (
-            5,
-            free,
-            free,
-            Call::Take(Kind::Task),
-            0,
-            Short::Task(1, 5, IMAGE),
-        ),
-        (5, last, last, guest, 0, Short::Guest(1, LAST, IMAGE)),
-        (
-            5,
-            Short::Empty,
-            Short::Empty,
-            Call::Take(Kind::Task),
-            0,
-            Short::Task(1, 1, IMAGE),
-        ),
-        (5, Short::Empty, Short::Empty, guest, 50, Short::Empty),
-        (
-            5,
-            Short::Guest(1, 4, IMAGE),
-            Short::Guest(1, 4, IMAGE),
-            guest,
-            0,
-            Short::Guest(1, 5, IMAGE),
-        ),
-        (
-            5,
-            Short::Guest(3, 4, IMAGE),
-            Short::Guest(3, 4, IMAGE),
-            guest,
-            0,
-            Short::Guest(1, 5, IMAGE),
-        ),
-        (
-            5,
-            Short::Guest(2, 4, IMAGE),
-            Short::Guest(2, 4, IMAGE),
-            guest,
-            52,
-            Short::Guest(2, 4, IMAGE),
-        ),
-        (5, task, task, Call::Take(Kind::Task), 52, task),
-        (
-            5,
-            free,
-            Short::Free(6, IMAGE),
-            guest,
-            52,
-            Short::Free(6, IMAGE),
-        ),
-        (
-            5,
-            free,
-            Short::Guest(2, 5, IMAGE),
-            guest,
-            52,
-            Short::Guest(2, 5, IMAGE),
-        ),
-        (
-            5,
-            free,
-            Short::Free(4, OTHER),
-            guest,
-            50,
-            Short::Free(4, OTHER),
-        ),
-        (5, free, Short::Empty, guest, 50, Short::Empty),
-        (
-            0,
-            Short::Empty,
-            Short::Empty,
-            guest,
-            0,
-            Short::Guest(1, 1, Id::ZERO),
-        ),
-        (0, role, role, guest, 0, Short::Guest(1, 5, Id::ZERO)),
-        (
-            0,
-            Short::Guest(2, 4, Id::ZERO),
-            Short::Guest(2, 4, Id::ZERO),
-            guest,
-            41,
-            Short::Guest(2, 4, Id::ZERO),
-        ),
-        (0, Short::Empty, role, guest, 43, role),
-        (
-            0,
-            Short::Empty,
-            Short::Free(4, Id::ZERO),
-            guest,
-            42,
-            Short::Free(4, Id::ZERO),
-        ),
-        (
-            5,
-            free,
-            free,
-            Call::Release(Short::Guest(1, 5, IMAGE)),
-            0,
-            Short::Free(5, IMAGE),
-        ),
-        (
-            5,
-            free,
-            free,
-            Call::Release(Short::Guest(9, 6, IMAGE)),
-            41,
-            Short::Guest(9, 6, IMAGE),
-        ),
-        (5, free, free, Call::Clear, 0, Short::Empty),
-        (5, task, task, Call::FreeTask, 0, Short::Free(4, IMAGE)),
-        (5, task, task, Call::EmptyTask, 0, Short::Empty),
-        (
-            5,
-            task,
-            Short::Free(4, IMAGE),
-            Call::EmptyTask,
-            41,
-            Short::Free(4, IMAGE),
-        ),
-    ];
-    for (row, (slot, read, there, call, refusal, left)) in rows.into_iter().enumerate() {
-        let mut disk = make_leases(rt.alloc(), host, u64::MAX)?;
-        put(&mut disk, host, slot, there)?;
-        let got = make(host, &up, slot, sector(read), call, &mut disk);
-        assert!(rt; got == refusal, "row {row}");
-        assert!(rt;
-            stands(&mut disk, host, slot) == Some(sector(left)),
-            "row {row}"
-        );
+    for (at, row) in ROWS.into_iter().enumerate() {
+        assert!(rt; row_holds(rt.alloc(), host, &up, row)?, "row {at}");
     }
+    Ok(())
+}
+
+#[test]
+fn no_sector_and_a_fault(rt: HostRuntime) -> Result<(), Fail> {
+    let host = HostId::new(1).ok_or("1")?;
+    let up = UpSet::new();
     // Bytes that are no sector, in sector 0.
     let mut disk = make_leases(rt.alloc(), host, u64::MAX)?;
     disk.write_at(host, LEASES, 0, &[7; 512])?;
     disk.sync(host, LEASES)?;
-    assert!(rt; make(host, &up, 0, Sector::Empty, guest, &mut disk) == 58);
+    assert!(rt; make(host, &up, 0, Sector::Empty, GUEST, &mut disk) == 58);
     // The calls 0 to 3 make the file, 4 and 5 put the sector, and the exchange is the sixth.
     let mut disk = make_leases(rt.alloc(), host, 6)?;
-    put(&mut disk, host, 5, free)?;
-    assert!(rt; make(host, &up, 5, sector(free), guest, &mut disk) == 120);
-    assert!(rt; stands(&mut disk, host, 5) == Some(sector(free)));
+    put(&mut disk, host, 5, FREE)?;
+    assert!(rt; make(host, &up, 5, sector(FREE), GUEST, &mut disk) == 120);
+    assert!(rt; stands(&mut disk, host, 5) == Some(sector(FREE)));
     Ok(())
 }
 
