@@ -1,0 +1,5 @@
+pub mod Chains
+pub mod Flats
+pub mod Opened
+pub mod Refusals
+pub mod Rings

@@ -1,0 +1,10 @@
+pub mod Folder
+pub mod Records
+pub mod Chain
+pub mod Up
+pub mod Reading
+pub mod Own
+pub mod Flat
+pub mod Headers
+pub mod Covered
+pub mod Opening
