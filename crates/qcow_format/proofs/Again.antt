@@ -20,10 +20,10 @@ use Rattle.qcow_format.proofs.Table.{Stand, Read, length-puts, number-puts_befor
 abbrev pub bare : Header → Header
 bare h = record h { format_at = None; format = None }
 
-stand_2 : (h : Header) → Stand 0 72 (version_2_table h)
+pub stand_2 : (h : Header) → Stand 0 72 (version_2_table h)
 stand_2 h = search (arith)
 
-stand_3 : (h : Header) → Stand 72 104 (version_3_table h)
+pub stand_3 : (h : Header) → Stand 72 104 (version_3_table h)
 stand_3 h = search (arith)
 
 -- the fields of version 2 stand wherever a version is written
@@ -46,7 +46,7 @@ read_later h first is fits three =
     let test : eqb h.version 3 ≡ true = rw three refl in
     rw test (puts_read 72 104 (version_3_table h) (puts (version_2_table h) first) (stand_3 h) is.later_fit (omega (arith, length-puts 0 72 (version_2_table h) first (stand_2 h) (omega arith))))
 
-length-put_fields : (h : Header) (first : List ℕ) → 512 ≤ length first → length (put_fields h first) ≡ length first
+pub length-put_fields : (h : Header) (first : List ℕ) → 512 ≤ length first → length (put_fields h first) ≡ length first
 length-put_fields h first fits = go (eqb h.version 3)
   where
     two : length (puts (version_2_table h) first) ≡ length first
@@ -70,7 +70,7 @@ length-put_format (Some k) None end bytes room fits = refl
 length-put_format None f end bytes room fits = refl
 
 -- bytes behind change no number
-number-append : (n at : ℕ) (xs ys : List ℕ) → at + n ≤ length xs → number n at (xs ++ ys) ≡ number n at xs
+pub number-append : (n at : ℕ) (xs ys : List ℕ) → at + n ≤ length xs → number n at (xs ++ ys) ≡ number n at xs
 number-append n at xs ys le = number-same n at (xs ++ ys) xs (λ k low high. get_or_append_left xs ys 0 k (omega arith))
 
 -- what is written in front of a place is there in the whole
@@ -101,7 +101,7 @@ is_version v e = grind (arith, nat_tests)
 is_equal : (a b : ℕ) → not (eqb a b) ≡ false → a ≡ b
 is_equal a b e = grind (arith, nat_tests)
 
-tests : (h : Header) → field_fault h ≡ None
+pub tests : (h : Header) → field_fault h ≡ None
     → ((h.version ≡ 2) ⊎ (h.version ≡ 3)) × (h.incompatible_features ≡ 0) × (h.refcount_order ≡ 4)
 unfolding field_fault
 tests h e =

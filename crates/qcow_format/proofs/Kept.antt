@@ -13,10 +13,11 @@ use Rattle.sd_names.specs.declared.kinds.Format.{Format}
 use Rattle.qcow_format.specs.declared.header.Header.{Header}
 use Rattle.std.specs.Int.{trailing_zeros}
 use Rattle.qcow_format.specs.Numbers.{magic}
+use Rattle.qcow_format.specs.Bytes.{number}
 use Rattle.qcow_format.specs.Format.{◌>>=◌, walked}
 use Rattle.qcow_format.specs.Name.{backing_id, is_id, is_name, last_part, touches}
-use Rattle.qcow_format.specs.Header.{header_of, fine_fields, fields_of, field_fault, first_fault, shape_of, sized, with_format, head_size, has_shape, has_aligned_tables, has_length, has_name, is_closed, mapped}
-use Rattle.qcow_format.proofs.Accepted.{bind_ok, sized_ok}
+use Rattle.qcow_format.specs.Header.{header_of, fine_fields, fields_of, fields_of_version_2, fields_of_version_3, field_fault, first_fault, shape_of, sized, with_format, head_size, has_shape, has_aligned_tables, has_length, has_name, is_closed, mapped}
+use Rattle.qcow_format.proofs.Accepted.{bind_ok, fine_ok, sized_ok}
 
 both : (a b : Bool) → (a && b) ≡ true → (a ≡ true) × (b ≡ true)
 both true true e = (refl, refl)
@@ -98,6 +99,48 @@ cluster_range h e =
         high : (n : ℕ) → nat_lt 21 n ≡ false → n ≤ 21
         high n e = grind (arith, nat_tests)
 
+-- ---- the fields of a header that is read have no fault, and the bytes begin with the magic number
+
+unchanged : (h : Header) (found : Option (ℕ × Format)) → field_fault (with_format h found) ≡ field_fault h
+unfolding field_fault
+unchanged h found = refl
+
+first_number : (bytes : List ℕ) → (fields_of bytes).magic ≡ number 4 0 bytes
+unfolding fields_of fields_of_version_2
+first_number bytes = go (number 4 4 bytes == 3)
+  where
+    go : (b : Bool) → (if b then fields_of_version_3 bytes else fields_of_version_2 bytes).magic ≡ number 4 0 bytes
+    go true = refl
+    go false = refl
+
+fine : (bytes : List ℕ) (g : Header) → header_of bytes ≡ Ok g → (field_fault g ≡ None) × (g.magic ≡ number 4 0 bytes)
+unfolding header_of
+fine bytes g e = go (nat_lt (length bytes) 512) e
+  where
+    go : (b : Bool) → (if b then Err Short else (fine_fields (fields_of bytes) >>= λ h. shape_of (take (head_size h.cluster_bits) bytes) h >>= λ found. sized (with_format h found))) ≡ Ok g
+        → (field_fault g ≡ None) × (g.magic ≡ number 4 0 bytes)
+    go true e = absurd cc
+    go false e =
+        let a = bind_ok (fine_fields (fields_of bytes)) (λ h. shape_of (take (head_size h.cluster_bits) bytes) h >>= λ found. sized (with_format h found)) g e in
+        let none = fine_ok (fields_of bytes) a.0 (field_fault (fields_of bytes)) a.1 in
+        let b = bind_ok (shape_of (take (head_size a.0.cluster_bits) bytes) a.0) (λ found. sized (with_format a.0 found)) g a.2 in
+        let c = sized_ok (with_format a.0 b.0) g (nat_lt (mapped a.0) a.0.size) b.2 in
+        let whole = ap (λ (h : Header). with_format h b.0) none.1 ∙ c.1 in
+        (sym (ap (λ (h : Header). field_fault h) whole) ∙ unchanged (fields_of bytes) b.0 ∙ none.0, sym (ap (λ (h : Header). h.magic) whole) ∙ first_number bytes)
+
+pub read_without_fault : (bytes : List ℕ) (g : Header) → header_of bytes ≡ Ok g → field_fault g ≡ None
+read_without_fault bytes g e = (fine bytes g e).0
+
+pub begins_with_magic : (bytes : List ℕ) (g : Header) → header_of bytes ≡ Ok g → number 4 0 bytes ≡ magic
+unfolding field_fault
+begins_with_magic bytes g e =
+    let parts = fine bytes g e in
+    let test = (drop_one (magic_test g) (version_test g ∷ size_test g ∷ later g) parts.0).0 in
+    sym parts.1 ∙ is_equal g.magic magic test
+  where
+    is_equal : (a b : ℕ) → not (a == b) ≡ false → a ≡ b
+    is_equal a b e = grind (arith, nat_tests)
+
 -- ---- where the tables stand
 
 pub tables_aligned : (bytes : List ℕ) (h : Header) → header_of bytes ≡ Ok h → (h.l1_table_offset % 2 ^ h.cluster_bits ≡ 0) × (h.refcount_table_offset % 2 ^ h.cluster_bits ≡ 0)
@@ -113,7 +156,7 @@ pub record Named (bytes : List ℕ) (h : Header) : Type 0 where
   pub id : is_id (last_part (take h.backing_file_size (drop h.backing_file_offset bytes))) ≡ true
 
 -- some bytes of the first ones
-part_of : (n at size : ℕ) (bytes : List ℕ) → at + size ≤ length (take n bytes) → take size (drop at (take n bytes)) ≡ take size (drop at bytes)
+pub part_of : (n at size : ℕ) (bytes : List ℕ) → at + size ≤ length (take n bytes) → take size (drop at (take n bytes)) ≡ take size (drop at bytes)
 part_of n at size bytes within =
     let fits : at + size ≤ n = omega (arith, within, length-take n bytes) in
     let split : n ≡ at + (size + (n - (at + size))) = omega (arith, fits) in

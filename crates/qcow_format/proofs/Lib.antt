@@ -6,3 +6,4 @@ pub mod Table
 pub mod Again
 pub mod Accepted
 pub mod Kept
+pub mod New

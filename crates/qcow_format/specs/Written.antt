@@ -1,12 +1,12 @@
 -- A header as it is written (qcow2 specification, "Header").
-use Rattle.std.specs.Prelude.{◌≡◌, ℕ, ◌+◌, ◌^◌, ◌<◌, ◌≤◌, ◌==◌, if◌then◌else◌, IfSome, List, [], ◌∷◌, ◌++◌, codes, replicate, Option, Some, None}
+use Rattle.std.specs.Prelude.{◌≡◌, ℕ, ◌+◌, ◌%◌, ◌^◌, ◌<◌, ◌≤◌, ◌==◌, if◌then◌else◌, IfSome, List, [], ◌∷◌, ◌++◌, codes, replicate, Option, Some, None, true}
 use Rattle.std.specs.List.{AllByRecursion}
 use Rattle.sd_names.specs.declared.kinds.Format.{Format}
 use Rattle.sd_names.specs.declared.kinds.Format.TheVariants.{Raw, Cow}
 use Rattle.qcow_format.specs.Numbers.{backing_format}
 use Rattle.qcow_format.specs.declared.header.Header.{Header}
 use Rattle.qcow_format.specs.Bytes.{put, bytes_of}
-use Rattle.qcow_format.specs.Header.{field_fault, name_of, mapped}
+use Rattle.qcow_format.specs.Header.{field_fault, has_aligned_tables, name_of, mapped}
 
 -- a field: where it stands, how many bytes it has, and the number in them
 pub record Field : Type 0 where
@@ -87,3 +87,18 @@ pub record IsHeader (h : Header) : Type 0 where
   pub named : h.name ≡ name_of h.backing_file_offset h.backing_file_size
   pub room : IfSome h.format_at (λ at. (h.header_length ≤ at) × (at + 16 ≤ 512))
   pub mapped : h.size ≤ mapped h
+
+-- the backing format stands directly behind the header, or there is none
+abbrev pub IsBehind : Option ℕ → Option Format → ℕ → Type 0
+IsBehind (Some at) (Some format) end = at ≡ end
+IsBehind None None end = Unit {0}
+IsBehind (Some at) None end = ⊥
+IsBehind None (Some format) end = ⊥
+
+-- A header as a new layer has it: its tables stand at clusters, and header, backing format and closing mark lie in the
+-- first sector, one directly behind the other.
+pub record IsNew (h : Header) : Type 0 where
+  pub tables : has_aligned_tables h ≡ true
+  pub whole : h.header_length % 8 ≡ 0
+  pub room : h.header_length + 24 ≤ 512
+  pub behind : IsBehind h.format_at h.format h.header_length

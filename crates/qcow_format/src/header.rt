@@ -1,8 +1,8 @@
 // The header.
-ghost use Rattle.std.specs.Prelude.{◌≡◌, ℕ, ◌^◌, ◌<◌, ◌≤◌, ◌++◌, List, length, take, Option, IfNone, IfOk, Ok, nat_le};
+ghost use Rattle.std.specs.Prelude.{◌≡◌, ℕ, ◌^◌, ◌<◌, ◌≤◌, ◌++◌, List, length, replicate, take, Option, IfNone, IfOk, Ok, nat_le, true};
 ghost use Rattle.std.specs.Option.{SomeIff};
-ghost use Rattle.qcow_format.specs.Header.{fields_of_version_2, fields_of, field_fault, name_of, mapped, head_size, shape_of, with_format, header_of};
-ghost use Rattle.qcow_format.specs.Written.{HasRoom, IsHeader, written};
+ghost use Rattle.qcow_format.specs.Header.{fields_of_version_2, fields_of, field_fault, name_of, mapped, has_name, head_size, shape_of, with_format, header_of};
+ghost use Rattle.qcow_format.specs.Written.{HasRoom, IsHeader, IsNew, written};
 ghost use Rattle.qcow_format.specs.Numbers.{magic, backing_format};
 
 use crate::bytes::{u32_at, u64_at};
@@ -249,11 +249,15 @@ impl Header {
 }
 
 /// A law: a header that was written to the first sector of a file is read again, where the head behind it keeps the
-/// profile's rules and names the header's own backing format.
+/// profile's rules and names the header's own backing format. A new layer's header, written into a sector of zeros, keeps
+/// them by itself, so that nothing is asked of the head but the backing file's name, which stands elsewhere in it.
 pub fn headers_read_again()
-    ensures { (h : Header) (first rest : List ℕ) (found : Option (ℕ × Format)) → IsHeader h → length first ≡ 512
+    ensures shaped { (h : Header) (first rest : List ℕ) (found : Option (ℕ × Format)) → IsHeader h → length first ≡ 512
         → shape_of (take (head_size h.cluster_bits) (written h first ++ rest)) h ≡ Ok found → with_format h found ≡ h
         → header_of (written h first ++ rest) ≡ Ok h }
+    ensures fresh { (h : Header) (rest : List ℕ) → IsHeader h → IsNew h
+        → has_name (take (head_size h.cluster_bits) (written h (replicate 512 0) ++ rest)) h ≡ true
+        → header_of (written h (replicate 512 0) ++ rest) ≡ Ok h }
 {}
 
 /// The numbers by which a file and a backing format are known are those of the standard.
