@@ -8,10 +8,3 @@ mod folder_disk;
 mod names;
 
 pub use folder_disk::FolderDisk;
-
-#[cfg(test)]
-mod calls_tests;
-#[cfg(test)]
-mod folder_tests;
-#[cfg(test)]
-mod rows;
