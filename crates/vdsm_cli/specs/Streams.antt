@@ -1,5 +1,5 @@
 -- The bytes that the adapters of streams tell.
-use Rattle.std.specs.Prelude.{◌≡◌, ℕ, ◌-◌, List, ◌++◌, length, take, Option, Some, None}
+use Rattle.std.specs.Prelude.{◌≡◌, ℕ, ◌-◌, List, ◌++◌, length, take, Option, Result, Ok, Err}
 use Rattle.std.specs.Option.{option_map}
 use Rattle.vdsm_cli.specs.declared.std_stream.StdSource.{StdSource}
 use Rattle.vdsm_cli.specs.declared.std_stream.StdSink.{StdSink}
@@ -28,6 +28,6 @@ abbrev pub sink_given : {O : Type 0} → (O → Option (List ℕ)) → StdSink O
 sink_given contents sink = option_map (but_last sink.unflushed) (contents sink.output)
 
 -- so many bytes of the piece were taken, or nothing was given
-abbrev pub Takes : List ℕ → List ℕ → List ℕ → Option ℕ → Type 0
-Takes before after piece (Some count) = after ≡ before ++ take count piece
-Takes before after piece None = after ≡ before
+abbrev pub Takes : {E : Type 0} → List ℕ → List ℕ → List ℕ → Result ℕ E → Type 0
+Takes before after piece (Ok count) = after ≡ before ++ take count piece
+Takes before after piece (Err _) = after ≡ before

@@ -2,6 +2,7 @@
 //! output.
 #![tactic(auto)]
 
+mod again;
 mod std_stream;
 #[cfg(test)]
 mod tests;

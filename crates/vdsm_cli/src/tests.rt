@@ -1,4 +1,4 @@
-// Streams that fail in mid-stream, and the program's words and moment.
+// Streams that fail or are interrupted in mid-stream, and the program's words and moment.
 use crate::std_stream::{StdSink, StdSource};
 use crate::words;
 use script_loop::{Sink, Source};
@@ -38,6 +38,51 @@ impl Write for Halting {
 
     fn flush(&mut self) -> io::Result<()> {
         Ok(())
+    }
+}
+
+// A stream whose every other call is interrupted by a signal, and that takes or gives one byte in each other.
+#[derive(Drop)]
+struct Interrupted {
+    was: bool,
+}
+
+impl Interrupted {
+    fn next(&mut self) -> io::Result<()> {
+        self.was = !self.was;
+        if self.was {
+            return Err(io::Error::from(ErrorKind::Interrupted));
+        }
+        Ok(())
+    }
+}
+
+impl Read for Interrupted {
+    fn read(&mut self, buf: &mut [u8]) -> io::Result<usize> {
+        self.next()?;
+        Ok(buf.len().min(1))
+    }
+}
+
+impl Write for Interrupted {
+    fn write(&mut self, buf: &[u8]) -> io::Result<usize> {
+        self.next()?;
+        Ok(buf.len().min(1))
+    }
+
+    fn flush(&mut self) -> io::Result<()> {
+        self.next()
+    }
+}
+
+#[test]
+fn interrupted_streams_go_on(rt: HostRuntime) {
+    let mut source = StdSource::new(Interrupted { was: false });
+    let mut room = [0; 4];
+    let mut sink = StdSink::new(Interrupted { was: false });
+    for _ in 0..3u8 {
+        assert!(rt; source.read(&mut room) == Ok(1));
+        assert!(rt; sink.write(b"ab") == Ok(1));
     }
 }
 
