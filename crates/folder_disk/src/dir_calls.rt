@@ -1,5 +1,7 @@
 // The calls that list folders and remove them.
-ghost use Rattle.std.specs.Prelude.{◌≡◌, IfOk, IfErr};
+ghost use Rattle.std.specs.Prelude.{◌≡◌, IfOk, IfErr, IfSome};
+ghost use Rattle.folder_disk.specs.Changed.{change_of};
+ghost use Rattle.folder_disk.specs.declared.names.Change.{Change};
 ghost use Rattle.folder_layout.specs.Listing.{AnswersAbove};
 ghost use Rattle.kept_files.specs.Answers.{IsNoFile, IsNoFileOrNotEmpty};
 ghost use Rattle.kept_files.specs.Flushed.{flushed_dir};
@@ -7,6 +9,7 @@ ghost use Rattle.sd_names.specs.Place.{parent_of};
 
 use crate::folder::Folder;
 use crate::names;
+use crate::names::Changed;
 use folder_layout::{Entry, PIECE, is_below, least_above, read_dir, read_name};
 use kept_files::{FlushedDir, answer_for};
 use sd_names::{Dir, Name};
@@ -17,8 +20,9 @@ use std::io::{ErrorKind, Read};
 impl<R: Files> Folder<R> {
     /// Removes the folder with what isn't shown of it, and flushes the one above it. What is shown is never taken away,
     /// also where another host makes it meanwhile.
-    pub(crate) fn remove_dir(&mut self, dir: &Dir) -> Result<FlushedDir, DiskAnswer>
-        ensures flushed { IfOk result (λ flushed. flushed_dir flushed ≡ parent_of dir.now) }
+    pub(crate) fn remove_dir(&mut self, dir: &Dir) -> Result<(Changed, FlushedDir), DiskAnswer>
+        ensures change { IfOk result (λ done. change_of done.0 ≡ Change.DirRemoved) }
+        ensures flushed { IfOk result (λ done. flushed_dir done.1 ≡ parent_of dir.now) }
         ensures answers { IfErr result IsNoFileOrNotEmpty }
     {
         self.settle()?;
@@ -28,16 +32,17 @@ impl<R: Files> Folder<R> {
     }
 
     // Removes a folder with what isn't shown of it.
-    fn empty_and_remove(&mut self, dir: &Dir) -> Result<(), DiskAnswer>
+    fn empty_and_remove(&mut self, dir: &Dir) -> Result<Changed, DiskAnswer>
+        ensures change { IfOk result (λ changed. change_of changed ≡ Change.DirRemoved) }
         ensures answers { IfErr result IsNoFileOrNotEmpty }
     {
-        if self.remove_empty(dir)? {
-            return Ok(());
+        if let Some(changed) = self.remove_empty(dir)? {
+            return Ok(changed);
         }
         self.refuse_shown(dir)?;
         self.take_away_others(dir)?;
-        if self.remove_empty(dir)? {
-            return Ok(());
+        if let Some(changed) = self.remove_empty(dir)? {
+            return Ok(changed);
         }
         self.refuse_shown(dir)?;
         match *dir {
@@ -51,8 +56,9 @@ impl<R: Files> Folder<R> {
         }
     }
 
-    // Removes a folder where it is empty, and tells whether it was.
-    fn remove_empty(&mut self, dir: &Dir) -> Result<bool, DiskAnswer>
+    // Removes a folder where it is empty. `None` where it isn't.
+    fn remove_empty(&mut self, dir: &Dir) -> Result<Option<Changed>, DiskAnswer>
+        ensures change { IfOk result (λ removed. IfSome removed (λ changed. change_of changed ≡ Change.DirRemoved)) }
         ensures answers { IfErr result IsNoFile }
     {
         self.go_to(&dir.path())?;

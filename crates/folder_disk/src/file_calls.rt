@@ -1,15 +1,22 @@
 // The calls on the bytes of files, by their places.
-ghost use Rattle.std.specs.Prelude.{◌≡◌, ◌≢◌, ◌≤◌, length, IfOk, IfErr, OnOk};
+ghost use Rattle.std.specs.Prelude.{◌≡◌, ◌≤◌, ℤ, length, IfOk, IfErr, OnOk};
+ghost use Rattle.folder_disk.specs.Changed.{change_of};
+ghost use Rattle.folder_disk.specs.declared.names.Change.{Change};
 ghost use Rattle.kept_files.specs.Answers.{IsNoFile, IsNoFileOrExists, IsNoFileOrOutside};
 ghost use Rattle.kept_files.specs.Flushed.{flushed_dir, flushed_place};
+ghost use Rattle.kept_files.specs.Found.{found_stored};
+ghost use Rattle.kept_files.specs.declared.node.Found.{Found};
+ghost use Rattle.kept_files.specs.Grown.{IsGrown, IsMade};
 ghost use Rattle.kept_files.specs.Kept.{kept_place};
 ghost use Rattle.kept_files.specs.OpenFiles.{HasRoom};
-ghost use Rattle.kept_files.specs.Opened.{written_at, written_length};
+ghost use Rattle.kept_files.specs.Opened.{written_at, written_bytes};
+ghost use Rattle.kept_files.specs.Swapped.{IsSwapped};
 
 use crate::folder::Folder;
-use kept_files::{Flush, FlushedDir, FlushedFile, Found, Kept, Swapped, Written, create};
+use crate::names::{Changed, make_file};
+use kept_files::{Flush, FlushedDir, FlushedFile, Found, Grown, Kept, Swapped, Written};
 use sd_names::{Dir, Place};
-use shared_disk::{DiskAnswer, Exchanged};
+use shared_disk::DiskAnswer;
 use std::alloc::AllocError;
 use std::fs::{File, Files};
 use std::random::RandomSource;
@@ -22,7 +29,7 @@ impl<R: Files<File = File> + RandomSource> Folder<R> {
         ensures answers { IfErr result IsNoFile }
     {
         let found = self.look_at(place)?;
-        self.open.make_room(&found.node)?;
+        self.open.make_room(&found.node())?;
         let kept = self.open.take(&self.rt, self.path.as_str(), place, &found)?;
         Ok((kept, found))
     }
@@ -38,24 +45,24 @@ impl<R: Files<File = File> + RandomSource> Folder<R> {
         ensures answers { IfErr result IsNoFile }
     {
         let (kept, found) = self.reach(place)?;
-        let answer = kept.read(found.stored, at, into);
+        let answer = kept.read(found.stored(), at, into);
         self.open.put_back(kept);
         answer
     }
 
     /// Writes inside the file.
-    pub(crate) fn write(
+    pub(crate) fn write<'a>(
         &mut self,
         place: &Place,
         at: u64,
-        bytes: &[u8],
-    ) -> Result<Written, DiskAnswer>
+        bytes: &'a [u8],
+    ) -> Result<Written<'a>, DiskAnswer>
         ensures at { IfOk result (λ written. written_at written ≡ at) }
-        ensures length { IfOk result (λ written. written_length written ≡ length bytes.now) }
+        ensures bytes { IfOk result (λ written. written_bytes written ≡ bytes.now) }
         ensures answers { IfErr result IsNoFileOrOutside }
     {
         let (mut kept, found) = self.reach(place)?;
-        let answer = kept.write(found.stored, at, bytes);
+        let answer = kept.write(found.stored(), at, bytes);
         self.open.put_back(kept);
         answer
     }
@@ -72,40 +79,45 @@ impl<R: Files<File = File> + RandomSource> Folder<R> {
     }
 
     /// Raises the file's length, and flushes it.
-    pub(crate) fn grow(&mut self, place: &Place, length: u64) -> Result<FlushedFile, DiskAnswer>
-        ensures flushed { IfOk result (λ flushed. flushed_place flushed ≡ place.now) }
+    pub(crate) fn grow(&mut self, place: &Place, length: u64) -> Result<Grown, DiskAnswer>
+        ensures grown { IfOk result (λ grown. (descriptor : ℤ) × (found : Found) × IsGrown descriptor place.now (found_stored found) length grown) }
         ensures answers { IfErr result IsNoFile }
     {
         let (mut kept, found) = self.reach(place)?;
-        let answer = kept.grow(found.stored, length);
-        self.open.put_back(kept);
-        answer
-    }
-
-    /// Exchanges a sector of the file, under a lock on it.
-    pub(crate) fn exchange(
-        &mut self,
-        place: &Place,
-        sector: u64,
-        expect: &[u8; 512],
-        next: &[u8; 512],
-    ) -> Result<Exchanged, DiskAnswer>
-        ensures differs { IfOk result (λ answer. answer ≢ Exchanged.Found expect.now) }
-        ensures answers { IfErr result IsNoFileOrOutside }
-    {
-        let (mut kept, found) = self.reach(place)?;
-        let answer = kept.exchange(found.stored, sector, expect, next);
+        let answer = kept.grow(found.stored(), length);
         self.open.put_back(kept);
         match answer {
-            Ok(Swapped::Done(_, _)) => Ok(Exchanged::Done),
-            Ok(Swapped::Found(bytes)) => Ok(Exchanged::Found(bytes)),
+            Ok(grown) => Ok(grown),
             Err(answer) => Err(answer),
         }
     }
 
+    /// Exchanges a sector of the file, under a lock on it.
+    pub(crate) fn exchange<'a>(
+        &mut self,
+        place: &Place,
+        sector: u64,
+        expect: &[u8; 512],
+        next: &'a [u8; 512],
+    ) -> Result<Swapped<'a>, DiskAnswer>
+        ensures swapped { IfOk result (λ swapped. (descriptor : ℤ) × IsSwapped descriptor place.now sector expect.now next.now swapped) }
+        ensures answers { IfErr result IsNoFileOrOutside }
+    {
+        let (mut kept, found) = self.reach(place)?;
+        let answer = kept.exchange(found.stored(), sector, expect, next);
+        self.open.put_back(kept);
+        answer
+    }
+
     /// Makes the file, and flushes it and its folder.
-    pub(crate) fn create(&mut self, place: &Place, length: u64) -> Result<FlushedDir, DiskAnswer>
-        ensures flushed { IfOk result (λ flushed. flushed_dir flushed ≡ place.now.dir) }
+    pub(crate) fn create(
+        &mut self,
+        place: &Place,
+        length: u64,
+    ) -> Result<(Grown, Changed, FlushedDir), DiskAnswer>
+        ensures made { IfOk result (λ done. IsMade place.now length done.0) }
+        ensures change { IfOk result (λ done. change_of done.1 ≡ Change.FileMade) }
+        ensures flushed { IfOk result (λ done. flushed_dir done.2 ≡ place.now.dir) }
         ensures answers { IfErr result IsNoFileOrExists }
     {
         match self.look_at(place) {
@@ -116,8 +128,16 @@ impl<R: Files<File = File> + RandomSource> Folder<R> {
         self.go_to(&place.path())?;
         self.aim_at_new(&place.dir)?;
         let (new, path) = (self.target.as_str(), self.path.as_str());
-        let done = create(&self.rt, new, path, place, length);
-        self.changed(&place.dir, done)
+        match make_file(&self.rt, new, path, place, length) {
+            Ok((made, changed)) => {
+                let (changed, flushed) = self.changed(&place.dir, Ok(changed))?;
+                Ok((made, changed, flushed))
+            }
+            Err(answer) => {
+                self.changed(&place.dir, Err(answer))?;
+                Err(answer)
+            }
+        }
     }
 
     // Makes the second path one in a folder that nobody else uses and that isn't shown.

@@ -1,11 +1,14 @@
 // The files and folders of a shared folder, by their places.
 ghost use Rattle.std.specs.Prelude.{◌≡◌, ◌⊎◌, ◌++◌, string_bytes, None, Err, IfOk, IfErr, OnOk};
 ghost use Rattle.sd_names.specs.Place.{parent_of};
+ghost use Rattle.folder_disk.specs.Changed.{change_of};
 ghost use Rattle.folder_disk.specs.Path.{folder_named, path_below};
+ghost use Rattle.folder_disk.specs.declared.names.Change.{Change};
 ghost use Rattle.kept_files.specs.Answers.{IsNoFile, IsNoFileOrExists};
 ghost use Rattle.kept_files.specs.Flushed.{flushed_dir};
 
 use crate::names;
+use crate::names::Changed;
 use kept_files::{FlushedDir, Found, OpenFiles, flush_dir, look, shown_length};
 use sd_names::{Dir, Name, NoMemory, PathText, Place};
 use shared_disk::DiskAnswer;
@@ -162,7 +165,7 @@ impl<R: Files> Folder<R> {
         self.settle()?;
         self.go_to(&place.path())?;
         if let Ok(found) = look(&self.rt, self.path.as_str()) {
-            if self.open.has(&found.node) {
+            if self.open.has(&found.node()) {
                 return Ok(found);
             }
         }
@@ -176,25 +179,26 @@ impl<R: Files> Folder<R> {
     pub(crate) fn changed(
         &mut self,
         dir: &Dir,
-        answer: Result<(), DiskAnswer>,
-    ) -> Result<FlushedDir, DiskAnswer>
-        ensures flushed { IfOk result (λ flushed. flushed_dir flushed ≡ dir.now) }
+        answer: Result<Changed, DiskAnswer>,
+    ) -> Result<(Changed, FlushedDir), DiskAnswer>
+        ensures change { (change : Change) → IfOk answer (λ changed. change_of changed ≡ change) → IfOk result (λ done. change_of done.0 ≡ change) }
+        ensures flushed { IfOk result (λ done. flushed_dir done.1 ≡ dir.now) }
         ensures answers { IfErr result (λ why. (why ≡ DiskAnswer.Failed) ⊎ (answer ≡ Err why)) }
     {
-        match answer {
-            Ok(()) => {}
+        let changed = match answer {
+            Ok(changed) => changed,
             Err(DiskAnswer::Failed) => {
                 self.owed = Some(*dir);
                 return Err(DiskAnswer::Failed);
             }
             Err(answer) => return Err(answer),
-        }
+        };
         self.owed = Some(*dir);
         self.go_to(&dir.path())?;
         match flush_dir(&self.rt, self.path.as_str(), dir) {
             Ok(flushed) => {
                 self.owed = None;
-                Ok(flushed)
+                Ok((changed, flushed))
             }
             Err(_) => Err(DiskAnswer::Failed),
         }
@@ -205,12 +209,17 @@ impl<R: Files> Folder<R> {
         ensures answers { IfErr result IsNoFile }
     {
         let found = self.look_at(place)?;
-        shown_length(found.stored)
+        shown_length(found.stored())
     }
 
     /// Gives the file another name in its folder, and flushes the folder.
-    pub(crate) fn rename(&mut self, from: &Place, to: Name) -> Result<FlushedDir, DiskAnswer>
-        ensures flushed { IfOk result (λ flushed. flushed_dir flushed ≡ from.now.dir) }
+    pub(crate) fn rename(
+        &mut self,
+        from: &Place,
+        to: Name,
+    ) -> Result<(Changed, FlushedDir), DiskAnswer>
+        ensures change { IfOk result (λ done. change_of done.0 ≡ Change.FileRenamed) }
+        ensures flushed { IfOk result (λ done. flushed_dir done.1 ≡ from.now.dir) }
         ensures answers { IfErr result IsNoFile }
     {
         let target = Place {
@@ -221,28 +230,30 @@ impl<R: Files> Folder<R> {
         self.aim_at(&target.path())?;
         let replaced = look(&self.rt, self.target.as_str());
         let done = names::rename(&self.rt, self.path.as_str(), self.target.as_str());
-        if let (Ok(()), Ok(replaced)) = (done, replaced) {
-            self.open.forget(&replaced.node);
+        if let (Ok(_), Ok(replaced)) = (done, replaced) {
+            self.open.forget(&replaced.node());
         }
         self.changed(&from.dir, done)
     }
 
     /// Removes the file, and flushes its folder.
-    pub(crate) fn remove(&mut self, place: &Place) -> Result<FlushedDir, DiskAnswer>
-        ensures flushed { IfOk result (λ flushed. flushed_dir flushed ≡ place.now.dir) }
+    pub(crate) fn remove(&mut self, place: &Place) -> Result<(Changed, FlushedDir), DiskAnswer>
+        ensures change { IfOk result (λ done. change_of done.0 ≡ Change.FileRemoved) }
+        ensures flushed { IfOk result (λ done. flushed_dir done.1 ≡ place.now.dir) }
         ensures answers { IfErr result IsNoFile }
     {
         let found = self.look_at(place)?;
         let done = names::remove(&self.rt, self.path.as_str());
         if done.is_ok() {
-            self.open.forget(&found.node);
+            self.open.forget(&found.node());
         }
         self.changed(&place.dir, done)
     }
 
     /// Makes the folder, and flushes the one above it.
-    pub(crate) fn make_dir(&mut self, dir: &Dir) -> Result<FlushedDir, DiskAnswer>
-        ensures flushed { IfOk result (λ flushed. flushed_dir flushed ≡ parent_of dir.now) }
+    pub(crate) fn make_dir(&mut self, dir: &Dir) -> Result<(Changed, FlushedDir), DiskAnswer>
+        ensures change { IfOk result (λ done. change_of done.0 ≡ Change.DirMade) }
+        ensures flushed { IfOk result (λ done. flushed_dir done.1 ≡ parent_of dir.now) }
         ensures answers { IfErr result IsNoFileOrExists }
     {
         let above = dir.parent();
@@ -254,8 +265,13 @@ impl<R: Files> Folder<R> {
     }
 
     /// Moves the folder, and flushes the one above it, which is the same before and after.
-    pub(crate) fn move_dir(&mut self, from: &Dir, to: &Dir) -> Result<FlushedDir, DiskAnswer>
-        ensures flushed { IfOk result (λ flushed. flushed_dir flushed ≡ parent_of from.now) }
+    pub(crate) fn move_dir(
+        &mut self,
+        from: &Dir,
+        to: &Dir,
+    ) -> Result<(Changed, FlushedDir), DiskAnswer>
+        ensures change { IfOk result (λ done. change_of done.0 ≡ Change.DirMoved) }
+        ensures flushed { IfOk result (λ done. flushed_dir done.1 ≡ parent_of from.now) }
         ensures answers { IfErr result IsNoFileOrExists }
     {
         self.settle()?;

@@ -1,12 +1,16 @@
 // The shared disk as a folder of the file system.
 ghost use Rattle.std.proofs.Common.{rules};
-ghost use Rattle.std.specs.Prelude.{◌≡◌, ◌↔◌, ◌+◌, ◌-◌, ◌^◌, min, IfOk, IsOk, Err};
-ghost use Rattle.shared_disk.specs.declared.disk.DiskAnswer.{DiskAnswer};
+ghost use Rattle.std.specs.Prelude.{◌≡◌, ◌≢◌, ◌+◌, ◌-◌, ◌^◌, ◌<◌, length, min, IfOk, OnOk, Err, Ok};
+ghost use Rattle.sd_names.specs.Place.{parent_of};
+ghost use Rattle.shared_disk.specs.declared.disk.Exchanged.{Exchanged};
 ghost use Rattle.shared_disk.specs.Calls.{HasCause};
-ghost use Rattle.folder_disk.specs.Disk.{disk_faults, disk_calls, disk_root};
+ghost use Rattle.folder_disk.specs.declared.names.Change.{Change};
+ghost use Rattle.folder_disk.specs.Disk.{HasChanged, HasFlushedFile, HasWritten, disk_calls, disk_done, disk_faults, disk_root};
 ghost use Rattle.folder_disk.specs.Path.{folder_named};
 
+use crate::done::Done;
 use crate::folder::Folder;
+use kept_files::Swapped;
 use sd_names::{Dir, HostId, Name, NoMemory, Place};
 use shared_disk::{DiskAnswer, Exchanged, SharedDisk};
 use std::alloc::Global;
@@ -20,6 +24,8 @@ pub struct FolderDisk<R> {
     folder: Folder<R>,
     calls: u64,
     faults: u64,
+    // What the last call that changed something has done. It is kept for the contracts alone.
+    done: Done,
 }
 
 impl<R: Files + Drop> FolderDisk<R> {
@@ -34,6 +40,7 @@ impl<R: Files + Drop> FolderDisk<R> {
                 folder,
                 calls: 0,
                 faults: 0,
+                done: Done::Nothing,
             }),
             Err(NoMemory) => Err(NoMemory),
         }
@@ -47,25 +54,40 @@ impl<R> FolderDisk<R> {
         ensures calls { disk_calls self.new ≡ min (disk_calls self.old + 1) (2 ^ 64 - 1) }
         ensures cause { HasCause (disk_faults self.old) (disk_faults self.new) result }
     {
+        let _faults = self.faults;
+        match answer {
+            Ok(told) => {
+                self.calls = self.calls.saturating_add(1);
+                Ok(told)
+            }
+            Err(answer) => Err(self.count_answer(answer)),
+        }
+    }
+
+    // Counts a call that has changed something, and keeps what says so.
+    fn count_done(&mut self, done: Done)
+        ensures done { disk_done self.new ≡ done }
+        ensures calls { disk_calls self.new ≡ min (disk_calls self.old + 1) (2 ^ 64 - 1) }
+        ensures faults { disk_faults self.new ≡ disk_faults self.old }
+        ensures bound { disk_faults self.new < 2 ^ 64 }
+    {
+        let _faults = self.faults;
+        self.calls = self.calls.saturating_add(1);
+        self.done = done;
+    }
+
+    // Counts a call that gives an answer, and a fault where it failed.
+    fn count_answer(&mut self, answer: DiskAnswer) -> DiskAnswer
+        ensures same { result ≡ answer }
+        ensures calls { disk_calls self.new ≡ min (disk_calls self.old + 1) (2 ^ 64 - 1) }
+        ensures cause { HasCause {T = Unit {0}} (disk_faults self.old) (disk_faults self.new) (Err answer) }
+    {
         let faults = self.faults;
         self.calls = self.calls.saturating_add(1);
-        if let Err(DiskAnswer::Failed) = &answer {
+        if let DiskAnswer::Failed = answer {
             self.faults = faults.saturating_add(1);
         }
         answer
-    }
-
-    // Counts a call that tells what it has done.
-    fn counted_change<T: Copy>(&mut self, answer: Result<T, DiskAnswer>) -> Result<(), DiskAnswer>
-        ensures done { IsOk result ↔ IsOk answer }
-        ensures failed { (why : DiskAnswer) → answer ≡ Err why → result ≡ Err why }
-        ensures calls { disk_calls self.new ≡ min (disk_calls self.old + 1) (2 ^ 64 - 1) }
-        ensures cause { HasCause (disk_faults self.old) (disk_faults self.new) result }
-    {
-        match self.counted(answer) {
-            Ok(_) => Ok(()),
-            Err(answer) => Err(answer),
-        }
     }
 }
 
@@ -99,19 +121,46 @@ impl<R: Files<File = File> + RandomSource> SharedDisk for FolderDisk<R> {
         place: Place,
         at: u64,
         bytes: &[u8],
-    ) -> Result<(), DiskAnswer> {
-        let answer = self.folder.write(&place, at, bytes);
-        self.counted_change(answer)
+    ) -> Result<(), DiskAnswer>
+        ensures cause { HasCause (disk_faults self.old) (disk_faults self.new) result }
+        ensures counted { disk_calls self.new ≡ min (disk_calls self.old + 1) (2 ^ 64 - 1) }
+        ensures written { OnOk result (HasWritten at (length bytes.now) self.new) }
+    {
+        match self.folder.write(&place, at, bytes) {
+            Ok(written) => {
+                self.count_done(Done::Bytes(written.range()));
+                Ok(())
+            }
+            Err(answer) => Err(self.count_answer(answer)),
+        }
     }
 
-    fn sync(&mut self, _host: HostId, place: Place) -> Result<(), DiskAnswer> {
-        let answer = self.folder.sync(&place);
-        self.counted_change(answer)
+    fn sync(&mut self, _host: HostId, place: Place) -> Result<(), DiskAnswer>
+        ensures cause { HasCause (disk_faults self.old) (disk_faults self.new) result }
+        ensures counted { disk_calls self.new ≡ min (disk_calls self.old + 1) (2 ^ 64 - 1) }
+        ensures flushed { OnOk result (HasFlushedFile place self.new) }
+    {
+        match self.folder.sync(&place) {
+            Ok(flushed) => {
+                self.count_done(Done::File(flushed));
+                Ok(())
+            }
+            Err(answer) => Err(self.count_answer(answer)),
+        }
     }
 
-    fn create(&mut self, _host: HostId, place: Place, length: u64) -> Result<(), DiskAnswer> {
-        let answer = self.folder.create(&place, length);
-        self.counted_change(answer)
+    fn create(&mut self, _host: HostId, place: Place, length: u64) -> Result<(), DiskAnswer>
+        ensures cause { HasCause (disk_faults self.old) (disk_faults self.new) result }
+        ensures counted { disk_calls self.new ≡ min (disk_calls self.old + 1) (2 ^ 64 - 1) }
+        ensures changed { OnOk result (HasChanged Change.FileMade place.dir self.new) }
+    {
+        match self.folder.create(&place, length) {
+            Ok((_, changed, flushed)) => {
+                self.count_done(Done::Names(changed, flushed));
+                Ok(())
+            }
+            Err(answer) => Err(self.count_answer(answer)),
+        }
     }
 
     fn length(&mut self, _host: HostId, place: Place) -> Result<u64, DiskAnswer> {
@@ -119,34 +168,88 @@ impl<R: Files<File = File> + RandomSource> SharedDisk for FolderDisk<R> {
         self.counted(answer)
     }
 
-    fn make_dir(&mut self, _host: HostId, dir: Dir) -> Result<(), DiskAnswer> {
-        let answer = self.folder.make_dir(&dir);
-        self.counted_change(answer)
+    fn make_dir(&mut self, _host: HostId, dir: Dir) -> Result<(), DiskAnswer>
+        ensures cause { HasCause (disk_faults self.old) (disk_faults self.new) result }
+        ensures counted { disk_calls self.new ≡ min (disk_calls self.old + 1) (2 ^ 64 - 1) }
+        ensures changed { OnOk result (HasChanged Change.DirMade (parent_of dir) self.new) }
+    {
+        match self.folder.make_dir(&dir) {
+            Ok((changed, flushed)) => {
+                self.count_done(Done::Names(changed, flushed));
+                Ok(())
+            }
+            Err(answer) => Err(self.count_answer(answer)),
+        }
     }
 
-    fn grow(&mut self, _host: HostId, place: Place, length: u64) -> Result<(), DiskAnswer> {
-        let answer = self.folder.grow(&place, length);
-        self.counted_change(answer)
+    fn grow(&mut self, _host: HostId, place: Place, length: u64) -> Result<(), DiskAnswer>
+        ensures cause { HasCause (disk_faults self.old) (disk_faults self.new) result }
+        ensures counted { disk_calls self.new ≡ min (disk_calls self.old + 1) (2 ^ 64 - 1) }
+        ensures flushed { OnOk result (HasFlushedFile place self.new) }
+    {
+        match self.folder.grow(&place, length) {
+            Ok(grown) => {
+                self.count_done(Done::File(grown.flushed));
+                Ok(())
+            }
+            Err(answer) => Err(self.count_answer(answer)),
+        }
     }
 
-    fn rename(&mut self, _host: HostId, from: Place, to: Name) -> Result<(), DiskAnswer> {
-        let answer = self.folder.rename(&from, to);
-        self.counted_change(answer)
+    fn rename(&mut self, _host: HostId, from: Place, to: Name) -> Result<(), DiskAnswer>
+        ensures cause { HasCause (disk_faults self.old) (disk_faults self.new) result }
+        ensures counted { disk_calls self.new ≡ min (disk_calls self.old + 1) (2 ^ 64 - 1) }
+        ensures changed { OnOk result (HasChanged Change.FileRenamed from.dir self.new) }
+    {
+        match self.folder.rename(&from, to) {
+            Ok((changed, flushed)) => {
+                self.count_done(Done::Names(changed, flushed));
+                Ok(())
+            }
+            Err(answer) => Err(self.count_answer(answer)),
+        }
     }
 
-    fn remove(&mut self, _host: HostId, place: Place) -> Result<(), DiskAnswer> {
-        let answer = self.folder.remove(&place);
-        self.counted_change(answer)
+    fn remove(&mut self, _host: HostId, place: Place) -> Result<(), DiskAnswer>
+        ensures cause { HasCause (disk_faults self.old) (disk_faults self.new) result }
+        ensures counted { disk_calls self.new ≡ min (disk_calls self.old + 1) (2 ^ 64 - 1) }
+        ensures changed { OnOk result (HasChanged Change.FileRemoved place.dir self.new) }
+    {
+        match self.folder.remove(&place) {
+            Ok((changed, flushed)) => {
+                self.count_done(Done::Names(changed, flushed));
+                Ok(())
+            }
+            Err(answer) => Err(self.count_answer(answer)),
+        }
     }
 
-    fn remove_dir(&mut self, _host: HostId, dir: Dir) -> Result<(), DiskAnswer> {
-        let answer = self.folder.remove_dir(&dir);
-        self.counted_change(answer)
+    fn remove_dir(&mut self, _host: HostId, dir: Dir) -> Result<(), DiskAnswer>
+        ensures cause { HasCause (disk_faults self.old) (disk_faults self.new) result }
+        ensures counted { disk_calls self.new ≡ min (disk_calls self.old + 1) (2 ^ 64 - 1) }
+        ensures changed { OnOk result (HasChanged Change.DirRemoved (parent_of dir) self.new) }
+    {
+        match self.folder.remove_dir(&dir) {
+            Ok((changed, flushed)) => {
+                self.count_done(Done::Names(changed, flushed));
+                Ok(())
+            }
+            Err(answer) => Err(self.count_answer(answer)),
+        }
     }
 
-    fn move_dir(&mut self, _host: HostId, from: Dir, to: Dir) -> Result<(), DiskAnswer> {
-        let answer = self.folder.move_dir(&from, &to);
-        self.counted_change(answer)
+    fn move_dir(&mut self, _host: HostId, from: Dir, to: Dir) -> Result<(), DiskAnswer>
+        ensures cause { HasCause (disk_faults self.old) (disk_faults self.new) result }
+        ensures counted { disk_calls self.new ≡ min (disk_calls self.old + 1) (2 ^ 64 - 1) }
+        ensures changed { OnOk result (HasChanged Change.DirMoved (parent_of from) self.new) }
+    {
+        match self.folder.move_dir(&from, &to) {
+            Ok((changed, flushed)) => {
+                self.count_done(Done::Names(changed, flushed));
+                Ok(())
+            }
+            Err(answer) => Err(self.count_answer(answer)),
+        }
     }
 
     fn next_name(
@@ -176,9 +279,20 @@ impl<R: Files<File = File> + RandomSource> SharedDisk for FolderDisk<R> {
         sector: u64,
         expect: &[u8; 512],
         next: &[u8; 512],
-    ) -> Result<Exchanged, DiskAnswer> {
-        let answer = self.folder.exchange(&place, sector, expect, next);
-        self.counted(answer)
+    ) -> Result<Exchanged, DiskAnswer>
+        ensures cause { HasCause (disk_faults self.old) (disk_faults self.new) result }
+        ensures counted { disk_calls self.new ≡ min (disk_calls self.old + 1) (2 ^ 64 - 1) }
+        ensures differs { IfOk result (λ answer. answer ≢ Exchanged.Found expect.now) }
+        ensures flushed { result ≡ Ok Exchanged.Done → HasFlushedFile place self.new }
+    {
+        match self.folder.exchange(&place, sector, expect, next) {
+            Ok(Swapped::Done(_, _, flushed)) => {
+                self.count_done(Done::File(flushed));
+                Ok(Exchanged::Done)
+            }
+            Ok(Swapped::Found(seen)) => self.counted(Ok(Exchanged::Found(*seen.bytes()))),
+            Err(answer) => Err(self.count_answer(answer)),
+        }
     }
 
     /// It does nothing. The host of this process goes down when its machine does, and what it wrote and had not synced

@@ -2,6 +2,7 @@
 #![tactic(auto)]
 
 mod dir_calls;
+mod done;
 mod file_calls;
 mod folder;
 mod folder_disk;

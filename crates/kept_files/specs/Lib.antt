@@ -5,3 +5,5 @@ pub mod Opened
 pub mod Kept
 pub mod OpenFiles
 pub mod Swapped
+pub mod Grown
+pub mod Found

@@ -23,6 +23,14 @@ IsKeptAt node files k = (k < length files) × ((d : Kept) → kept_node (get_or 
 abbrev pub IsInStateAt : State → List Kept → ℕ → Type 0
 IsInStateAt state files k = (k < length files) × ((d : Kept) → kept_state (get_or files k d) ≡ state)
 
+-- a file of the system is kept
+abbrev pub IsKept : Node → List Kept → Type 0
+IsKept node files = (k : ℕ) × IsKeptAt node files k
+
+-- a file of the system can be taken: it is kept, one more can be, or one that is flushed can be closed for it
+abbrev pub IsReady : Node → OpenFiles → Type 0
+IsReady node files = IsKept node (kept_files files) ⊎ HasRoom files ⊎ ((k : ℕ) × IsInStateAt Flushed (kept_files files) k)
+
 -- a file of the system isn't kept
 abbrev pub HasNone : Node → List Kept → Type 0
 HasNone node files = (k : ℕ) (d : Kept) → k < length files → kept_node (get_or files k d) ≢ node

@@ -3,10 +3,13 @@ ghost use Rattle.std.specs.Prelude.{true, false, ◌≡◌, ◌≢◌, ◌+◌, 
 ghost use Rattle.std.specs.IoError.{error_kind};
 ghost use Rattle.kept_files.specs.Answers.{IsNoFileOrExists};
 ghost use Rattle.kept_files.specs.Length.{padded};
-ghost use Rattle.kept_files.specs.Flushed.{flushed_place};
+ghost use Rattle.kept_files.specs.Grown.{IsGrown, IsMade};
+ghost use Rattle.std.specs.Fd.{file_raw_fd};
 
-use crate::flushed::{Flush, FlushedFile, flush_file};
+use crate::flushed::{Flush, flush_file};
+use crate::kept::Grown;
 use crate::node::{Node, look};
+use crate::written::raise;
 use sd_names::Place;
 use shared_disk::DiskAnswer;
 use std::fs::{File, Files, OpenOptions};
@@ -67,7 +70,8 @@ pub fn create<R: Files<File = File>>(
     path: &str,
     place: &Place,
     length: u64,
-) -> Result<(), DiskAnswer>
+) -> Result<Grown, DiskAnswer>
+    ensures made { IfOk result (IsMade place.now length) }
     ensures answers { IfErr result IsNoFileOrExists }
 {
     let file = OpenOptions::new()
@@ -75,24 +79,37 @@ pub fn create<R: Files<File = File>>(
         .create_new(true)
         .open(rt, new)
         .map_err(answer_for)?;
-    let made = match give_length(&file, place, length) {
-        Ok(_) => give_name(rt, &file, new, path),
-        Err(answer) => Err(answer),
-    };
+    let made = make(rt, &file, new, path, place, length);
     // Where this fails, the folder has a name more that it doesn't show.
     let _ = rt.remove_file(new);
     made
 }
 
+// Gives a new file its length, flushes it, and gives it its name.
+fn make<R: Files>(
+    rt: &R,
+    file: &File,
+    new: &str,
+    path: &str,
+    place: &Place,
+    length: u64,
+) -> Result<Grown, DiskAnswer>
+    ensures made { IfOk result (IsMade place.now length) }
+    ensures answers { IfErr result IsNoFileOrExists }
+{
+    let made = give_length(file, place, length)?;
+    give_name(rt, file, new, path)?;
+    Ok(made)
+}
+
 // Gives a new file its length, and flushes it.
-fn give_length(file: &File, place: &Place, length: u64) -> Result<FlushedFile, DiskAnswer>
-    ensures flushed { IfOk result (λ flushed. flushed_place flushed ≡ place.now) }
+fn give_length(file: &File, place: &Place, length: u64) -> Result<Grown, DiskAnswer>
+    ensures grown { IfOk result (IsGrown (file_raw_fd file.now) place.now 0 length) }
     ensures fault { IfErr result (λ answer. answer ≡ DiskAnswer.Failed) }
 {
-    if file.set_len(length).is_err() {
-        return Err(DiskAnswer::Failed);
-    }
-    flush_file(file, place, Flush::All)
+    let raised = raise(file, 0, length)?;
+    let flushed = flush_file(file, place, Flush::All)?;
+    Ok(Grown { raised, flushed })
 }
 
 // Gives an open file a second name, which nothing may have. Where the system says that something has it, the file itself

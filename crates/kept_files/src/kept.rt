@@ -1,15 +1,18 @@
 // A file that is kept open from its first call on, so that a flush goes through the descriptor that was written.
-ghost use Rattle.std.specs.Prelude.{◌≡◌, ◌↔◌, ◌≤◌, length, IfErr, IfOk, IsErr, IsTrue, OnOk};
+ghost use Rattle.std.specs.Prelude.{◌≡◌, ◌↔◌, ◌<◌, ◌≤◌, ◌+◌, ◌-◌, ◌*◌, length, min, Err, IfErr, IfOk, IsErr, IsTrue, OnOk};
+ghost use Rattle.kept_files.specs.Length.{padded};
 ghost use Rattle.kept_files.specs.Answers.{IsNoFile, IsNoFileOrOutside};
 ghost use Rattle.kept_files.specs.Flushed.{flushed_descriptor, flushed_place};
+ghost use Rattle.kept_files.specs.Found.{found_node};
 ghost use Rattle.kept_files.specs.Kept.{IsSameFile, kept_descriptor, kept_node, kept_place, kept_state};
-ghost use Rattle.kept_files.specs.Opened.{written_at, written_descriptor, written_length};
+ghost use Rattle.kept_files.specs.Grown.{IsGrown};
+ghost use Rattle.kept_files.specs.Opened.{written_at, written_bytes, written_descriptor};
 ghost use Rattle.kept_files.specs.Swapped.{IsSwapped};
 
 use crate::files::{answer_for, count_before, offset_inside, shown_length};
 use crate::flushed::{Flush, FlushedFile, flush_file};
 use crate::node::{Found, Node};
-use crate::written::{Written, get, put};
+use crate::written::{Raised, Seen, Written, get, put, raise, see};
 use sd_names::Place;
 use shared_disk::DiskAnswer;
 use std::fs::{File, Files, OpenOptions};
@@ -37,11 +40,19 @@ pub struct Kept {
 
 /// What an exchange of a sector came to.
 #[derive(Clone, Copy)]
-pub enum Swapped {
-    /// The next bytes were written, and the file was flushed.
-    Done(Written, FlushedFile),
-    /// The sector holds these bytes.
-    Found([u8; 512]),
+pub enum Swapped<'a> {
+    /// The sector held what was expected, the next bytes were written, and the file was flushed.
+    Done(Seen, Written<'a>, FlushedFile),
+    /// The sector holds other bytes.
+    Found(Seen),
+}
+
+/// What was done to a file that has so many bytes at least.
+#[derive(Clone, Copy)]
+pub struct Grown {
+    /// The length that it was given, where it had fewer bytes.
+    pub raised: Option<Raised>,
+    pub flushed: FlushedFile,
 }
 
 impl Kept {
@@ -54,7 +65,7 @@ impl Kept {
         found: &Found,
     ) -> Result<Kept, DiskAnswer>
         ensures place { IfOk result (λ kept. kept_place kept ≡ place.now) }
-        ensures node { IfOk result (λ kept. kept_node kept ≡ found.now.node) }
+        ensures node { IfOk result (λ kept. kept_node kept ≡ found_node found.now) }
         ensures state { IfOk result (λ kept. kept_state kept ≡ State.Flushed) }
         ensures answers { IfErr result IsNoFile }
     {
@@ -112,7 +123,7 @@ impl Kept {
 
     /// Reads from `at` on to the end that is shown of the file or of `into`. Past what the file has there are zeros.
     pub fn read(&self, stored: u64, at: u64, into: &mut [u8]) -> Result<usize, DiskAnswer>
-        ensures bound { IfOk result (λ count. count ≤ length into.old) }
+        ensures count { IfOk result (λ count. count ≡ min (length into.old) (padded stored - at)) }
         ensures failed { kept_state self.now ≡ State.Failed → IsErr result }
         ensures fault { IfErr result (λ answer. answer ≡ DiskAnswer.Failed) }
     {
@@ -145,10 +156,17 @@ impl Kept {
     }
 
     /// Writes from `at` on, inside the length that is shown of the file.
-    pub fn write(&mut self, stored: u64, at: u64, bytes: &[u8]) -> Result<Written, DiskAnswer>
+    pub fn write<'a>(
+        &mut self,
+        stored: u64,
+        at: u64,
+        bytes: &'a [u8],
+    ) -> Result<Written<'a>, DiskAnswer>
         ensures descriptor { IfOk result (λ written. written_descriptor written ≡ kept_descriptor self.old) }
         ensures at { IfOk result (λ written. written_at written ≡ at) }
-        ensures length { IfOk result (λ written. written_length written ≡ length bytes.now) }
+        ensures bytes { IfOk result (λ written. written_bytes written ≡ bytes.now) }
+        ensures inside { OnOk result (length bytes.now ≤ padded stored - at) }
+        ensures outside { result ≡ Err DiskAnswer.OutOfFile → padded stored - at < length bytes.now }
         ensures unflushed { OnOk result (kept_state self.new ≡ State.Unflushed) }
         ensures stays { kept_state self.old ≡ State.Failed → kept_state self.new ≡ State.Failed }
         ensures same { IsSameFile self.old self.new }
@@ -166,6 +184,7 @@ impl Kept {
         ensures flushed { IfOk result (λ flushed. flushed_place flushed ≡ kept_place self.old) }
         ensures descriptor { IfOk result (λ flushed. flushed_descriptor flushed ≡ kept_descriptor self.old) }
         ensures failed { kept_state self.old ≡ State.Failed → IsErr result }
+        ensures done { OnOk result (kept_state self.new ≡ State.Flushed) }
         ensures remembered { IfErr result (λ _. kept_state self.new ≡ State.Failed) }
         ensures same { IsSameFile self.old self.new }
         ensures fault { IfErr result (λ answer. answer ≡ DiskAnswer.Failed) }
@@ -186,32 +205,33 @@ impl Kept {
     }
 
     /// Raises the file's length with zeros where it has fewer bytes, and flushes it.
-    pub fn grow(&mut self, stored: u64, length: u64) -> Result<FlushedFile, DiskAnswer>
-        ensures flushed { IfOk result (λ flushed. flushed_place flushed ≡ kept_place self.old) }
-        ensures descriptor { IfOk result (λ flushed. flushed_descriptor flushed ≡ kept_descriptor self.old) }
+    pub fn grow(&mut self, stored: u64, length: u64) -> Result<Grown, DiskAnswer>
+        ensures grown { IfOk result (IsGrown (kept_descriptor self.old) (kept_place self.old) stored length) }
+        ensures done { OnOk result (kept_state self.new ≡ State.Flushed) }
         ensures failed { kept_state self.old ≡ State.Failed → IsErr result }
         ensures stays { kept_state self.old ≡ State.Failed → kept_state self.new ≡ State.Failed }
         ensures same { IsSameFile self.old self.new }
         ensures fault { IfErr result (λ answer. answer ≡ DiskAnswer.Failed) }
     {
         self.begin_change()?;
-        if stored < length && self.file.set_len(length).is_err() {
-            return Err(DiskAnswer::Failed);
-        }
+        let raised = raise(&self.file, stored, length)?;
         // A call that failed may have raised the length and not flushed it.
-        self.flush(Flush::All)
+        let flushed = self.flush(Flush::All)?;
+        Ok(Grown { raised, flushed })
     }
 
     /// Puts `next` into a sector where it holds `expect`, and flushes the file; else answers what it holds. The file is
     /// locked meanwhile, and a lock that isn't to be had at once is a fault.
-    pub fn exchange(
+    pub fn exchange<'a>(
         &mut self,
         stored: u64,
         sector: u64,
         expect: &[u8; 512],
-        next: &[u8; 512],
-    ) -> Result<Swapped, DiskAnswer>
-        ensures swapped { IfOk result (IsSwapped (kept_place self.old) sector expect.now) }
+        next: &'a [u8; 512],
+    ) -> Result<Swapped<'a>, DiskAnswer>
+        ensures swapped { IfOk result (IsSwapped (kept_descriptor self.old) (kept_place self.old) sector expect.now next.now) }
+        ensures inside { OnOk result (sector * 512 + 512 ≤ padded stored) }
+        ensures outside { result ≡ Err DiskAnswer.OutOfFile → padded stored < sector * 512 + 512 }
         ensures failed { kept_state self.old ≡ State.Failed → IsErr result }
         ensures stays { kept_state self.old ≡ State.Failed → kept_state self.new ≡ State.Failed }
         ensures same { IsSameFile self.old self.new }
@@ -228,14 +248,16 @@ impl Kept {
     }
 
     // Exchanges a sector of a file that is locked.
-    fn exchange_locked(
+    fn exchange_locked<'a>(
         &mut self,
         stored: u64,
         sector: u64,
         expect: &[u8; 512],
-        next: &[u8; 512],
-    ) -> Result<Swapped, DiskAnswer>
-        ensures swapped { IfOk result (IsSwapped (kept_place self.old) sector expect.now) }
+        next: &'a [u8; 512],
+    ) -> Result<Swapped<'a>, DiskAnswer>
+        ensures swapped { IfOk result (IsSwapped (kept_descriptor self.old) (kept_place self.old) sector expect.now next.now) }
+        ensures inside { OnOk result (sector * 512 + 512 ≤ padded stored) }
+        ensures outside { result ≡ Err DiskAnswer.OutOfFile → padded stored < sector * 512 + 512 }
         ensures stays { kept_state self.old ≡ State.Failed → kept_state self.new ≡ State.Failed }
         ensures same { IsSameFile self.old self.new }
         ensures answers { IfErr result IsNoFileOrOutside }
@@ -244,15 +266,13 @@ impl Kept {
             Some(at) => at,
             None => return Err(DiskAnswer::OutOfFile),
         };
-        let mut found = [0; 512];
-        let kept = count_before(stored, at, 512);
-        get(&self.file, at, &mut found[..kept])?;
-        if found != *expect {
-            return Ok(Swapped::Found(found));
+        let seen = see(&self.file, stored, at)?;
+        if seen.bytes() != expect {
+            return Ok(Swapped::Found(seen));
         }
         self.begin_change()?;
         let written = put(&self.file, at, next)?;
         let flushed = self.flush(Flush::Bytes)?;
-        Ok(Swapped::Done(written, flushed))
+        Ok(Swapped::Done(seen, written, flushed))
     }
 }

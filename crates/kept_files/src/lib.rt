@@ -11,7 +11,7 @@ mod written;
 
 pub use files::{answer_for, answer_for_new, create, shown_length};
 pub use flushed::{Flush, FlushedDir, FlushedFile, flush_dir};
-pub use kept::{Kept, State, Swapped};
+pub use kept::{Grown, Kept, State, Swapped};
 pub use node::{Found, Node, look};
 pub use open_files::OpenFiles;
-pub use written::Written;
+pub use written::{Raised, Seen, Written, WrittenRange};

@@ -1,6 +1,7 @@
 // Which file of the system stands under a name.
 ghost use Rattle.std.specs.Prelude.{◌≡◌, ◌↔◌, IfErr, IsTrue};
 ghost use Rattle.kept_files.specs.Answers.{IsNoFile};
+ghost use Rattle.kept_files.specs.Found.{found_node, found_stored};
 
 use crate::files::answer_for;
 use shared_disk::DiskAnswer;
@@ -31,11 +32,27 @@ impl Node {
     }
 }
 
-/// What stands under a name: a plain file, and how many bytes it has.
+/// What was found under a name: a plain file, and how many bytes it has. Nothing but a look makes one.
 #[derive(Clone, Copy)]
 pub struct Found {
-    pub node: Node,
-    pub stored: u64,
+    pub(crate) node: Node,
+    pub(crate) stored: u64,
+}
+
+impl Found {
+    /// Which file of the system it is.
+    pub fn node(&self) -> Node
+        ensures { result ≡ found_node self.now }
+    {
+        self.node
+    }
+
+    /// How many bytes it has.
+    pub fn stored(&self) -> u64
+        ensures { result ≡ found_stored self.now }
+    {
+        self.stored
+    }
 }
 
 /// Looks at a path, without opening what stands there and without following a link. Anything else than a plain file

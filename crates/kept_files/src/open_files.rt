@@ -1,8 +1,9 @@
 // The files that a disk keeps open.
-ghost use Rattle.std.specs.Prelude.{◌≡◌, ◌∷◌, ◌++◌, [], IfErr, IfNone, IfOk, IfSome, OnOk};
+ghost use Rattle.std.specs.Prelude.{◌≡◌, ◌∷◌, ◌++◌, [], false, IfErr, IfNone, IfOk, IfSome, IsTrue, OnOk};
 ghost use Rattle.kept_files.specs.Answers.{IsNoFile};
+ghost use Rattle.kept_files.specs.Found.{found_node};
 ghost use Rattle.kept_files.specs.Kept.{kept_node, kept_place};
-ghost use Rattle.kept_files.specs.OpenFiles.{ClosesFlushed, HasNone, HasRoom, IsForgotten, IsInStateAt, IsKeptAt, IsTaken, KeepsSame, kept_files};
+ghost use Rattle.kept_files.specs.OpenFiles.{ClosesFlushed, HasNone, HasRoom, IsForgotten, IsInStateAt, IsKept, IsKeptAt, IsReady, IsTaken, KeepsSame, kept_files};
 
 use crate::flushed::Flush;
 use crate::kept::{Kept, State};
@@ -47,8 +48,11 @@ impl OpenFiles {
     }
 
     /// Whether a file of the system is kept.
-    pub fn has(&self, node: &Node) -> bool {
-        self.find(node).is_some()
+    pub fn has(&self, node: &Node) -> bool
+        ensures kept { IsTrue result → IsKept node.now (kept_files self.now) }
+        ensures none { result ≡ false → HasNone node.now (kept_files self.now) }
+    {
+        matches!(self.find(node), Some(_))
     }
 
     // The file that wasn't used for longest, of those that stand so to their medium.
@@ -63,16 +67,24 @@ impl OpenFiles {
         None
     }
 
+    // Whether a file can be taken: it is kept, or a place is free, or held by a file that is flushed.
+    fn is_ready(&self, node: &Node) -> bool
+        ensures { IsTrue result → IsReady node.now self.now }
+    {
+        if self.has(node) || self.kept.len() < self.kept.capacity() {
+            return true;
+        }
+        matches!(self.least_recent(State::Flushed), Some(_))
+    }
+
     /// Sees that a file can be taken. Where it isn't kept, all places are taken and no kept file is flushed, the one that
     /// wasn't used for longest is flushed. All of them stay.
     pub fn make_room(&mut self, node: &Node) -> Result<(), DiskAnswer>
         ensures stay { KeepsSame (kept_files self.old) (kept_files self.new) }
+        ensures ready { OnOk result (IsReady node.now self.new) }
         ensures fault { IfErr result (λ answer. answer ≡ DiskAnswer.Failed) }
     {
-        if self.has(node)
-            || self.kept.len() < self.kept.capacity()
-            || self.least_recent(State::Flushed).is_some()
-        {
+        if self.is_ready(node) {
             return Ok(());
         }
         match self.least_recent(State::Unflushed) {
@@ -111,10 +123,10 @@ impl OpenFiles {
         place: &Place,
         found: &Found,
     ) -> Result<Kept, DiskAnswer>
-        ensures taken { IfOk result (IsTaken found.now.node (kept_files self.old) (kept_files self.new)) }
+        ensures taken { IfOk result (IsTaken (found_node found.now) (kept_files self.old) (kept_files self.new)) }
         ensures refused { IfErr result (λ _. ClosesFlushed (kept_files self.old) (kept_files self.new)) }
         ensures place { IfOk result (λ kept. kept_place kept ≡ place.now) }
-        ensures node { IfOk result (λ kept. kept_node kept ≡ found.now.node) }
+        ensures node { IfOk result (λ kept. kept_node kept ≡ found_node found.now) }
         ensures room { OnOk result (HasRoom self.new) }
         ensures answers { IfErr result IsNoFile }
     {
