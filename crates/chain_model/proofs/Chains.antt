@@ -5,13 +5,16 @@ use Rattle.std.specs.List.{Contains, filter}
 use Rattle.std.specs.Option.{is_some}
 use Rattle.std.proofs.lemmas.Bool.{false≢true}
 use Rattle.sd_names.specs.declared.id.Id.{Id}
+use Rattle.sd_names.specs.declared.refusal.Refusal.{Refusal}
+use Rattle.sd_names.specs.declared.refusal.Refusal.TheVariants.{WrongParent}
 use Rattle.shared_disk.proofs.Outcomes.{contains_here, contains_more, nothing_in, cons_cases}
 use Rattle.volume_meta.specs.declared.record.VolumeRecord.{VolumeRecord}
 use Rattle.chain_model.specs.Folder.{Volumes}
-use Rattle.chain_model.specs.Records.{Records, parent, parent_in, is_passed, legal_in, passed_in, holds_in}
+use Rattle.chain_model.specs.Records.{Records, is_volume, parent, parent_in, is_passed, legal_in, passed_in, holds_in}
 use Rattle.chain_model.specs.Chain.{IsBelow, counting, path_of}
 use Rattle.chain_model.specs.Up.{IsUp, LeadsTo, next, past, up_of}
 use Rattle.chain_model.specs.Reading.{IsReading}
+use Rattle.chain_model.specs.Opening.{IsStray}
 use Rattle.chain_model.specs.Covered.{IsClear, IsCovered}
 
 pub same_id : (o : Option Id) (a b : Id) → o ≡ Some a → o ≡ Some b → a ≡ b
@@ -97,7 +100,7 @@ none_and : (a b : Bool) (o : Option Id) → o ≡ None → (a && (b && is_some o
 none_and a b None e h = false_and a b h
 none_and a b (Some p) e h = absurd cc
 
-passed_has_parent : (o : Option VolumeRecord) → holds_in passed_in o ≡ true → option_and_then parent_in o ≡ None → ⊥
+pub passed_has_parent : (o : Option VolumeRecord) → holds_in passed_in o ≡ true → option_and_then parent_in o ≡ None → ⊥
 passed_has_parent None e f = false≢true e
 passed_has_parent (Some x) e f = none_and (not (legal_in x)) x.merged (parent_in x) f e
 
@@ -127,3 +130,15 @@ up_counts r v (w ∷ ws) b = record {
   reached = λ u l. reached_up r v u (w ∷ ws) b l;
   ring = λ none. let some = leads r v w ws b in absurd (none some.0 some.1);
 }
+
+-- what is passed over has a parent, and one of the image where it isn't a stray one
+pub passed_inside : (x : Volumes) (r : Records) (v : Id) → is_passed r v ≡ true → ((e : Refusal) → IsStray x r v e → ⊥) → (p : Id) × (parent r v ≡ Some p) × (is_volume x p ≡ true)
+passed_inside x r v passed none = go (parent r v) refl
+  where
+    inside : (p : Id) → parent r v ≡ Some p → (b : Bool) → is_volume x p ≡ b → is_volume x p ≡ true
+    inside p e true t = t
+    inside p e false t = absurd (none (WrongParent v p) (p, e, t, refl))
+
+    go : (o : Option Id) → parent r v ≡ o → (p : Id) × (parent r v ≡ Some p) × (is_volume x p ≡ true)
+    go None e = absurd (passed_has_parent (r v) passed e)
+    go (Some p) e = (p, e, inside p e (is_volume x p) refl)

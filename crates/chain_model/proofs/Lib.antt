@@ -1,5 +1,15 @@
+pub mod Asked
 pub mod Chains
+pub mod Covers
 pub mod Flats
+pub mod LongerImages
+pub mod LongerFiles
 pub mod Opened
+pub mod Held
+pub mod Outcomes
+pub mod OwnBytes
 pub mod Refusals
 pub mod Rings
+pub mod Settled
+pub mod Texts
+pub mod Whole

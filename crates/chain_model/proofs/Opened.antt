@@ -4,7 +4,6 @@ use Rattle.std.specs.Prelude.{option_and_then}
 use Rattle.std.specs.List.{Contains, list_any}
 use Rattle.std.specs.Option.{is_some, option_map}
 use Rattle.std.proofs.lemmas.Bool.{false≢true}
-use Rattle.std.proofs.lemmas.List.Elements.{Contains-append_right}
 use Rattle.std.proofs.lemmas.Map.Made.{is_member-Decides}
 use Rattle.sd_names.specs.declared.fault.VolumeFault.{VolumeFault}
 use Rattle.sd_names.specs.declared.id.Id.{Id}
@@ -18,7 +17,8 @@ use Rattle.chain_model.specs.Folder.{Volumes}
 use Rattle.chain_model.specs.Records.{Image, Records, holds_in, is_legal, legal_in, record_in, records_of}
 use Rattle.chain_model.specs.Chain.{ComesToRing, IsBelow, path_of}
 use Rattle.chain_model.specs.Reading.{IsReading}
-use Rattle.chain_model.specs.Opening.{AreVolumes, Check, FirstRefusal, IsOpenable, IsOpenPath, OpenFault, Refuses, both, checks, header, layer, of_volumes, reading}
+use Rattle.chain_model.specs.Opening.{AreVolumes, Check, FirstRefusal, IsOpenable, IsOpenPath, OpenFault, Refuses, checks, reading}
+use Rattle.chain_model.proofs.Asked.{asks_reading}
 use Rattle.chain_model.proofs.Chains.{one_below}
 use Rattle.chain_model.proofs.Refusals.{one_list, one_path}
 use Rattle.chain_model.proofs.Rings.{chain_or_ring, id_is-Decides, no_chain}
@@ -90,7 +90,7 @@ open_path r all known = go (reading_among r all all known)
     go (inr none) = ([], inr ((λ v vs a. let has = legal_record (r v) a.legal in none v (known v has.0 has.1) vs a), refl))
 
 -- a record is read from a text that is there
-text_there : (f : File → Result VolumeRecord VolumeFault) (o : Option File) (x : VolumeRecord) → option_and_then record_in (option_map f o) ≡ Some x → is_some o ≡ true
+pub text_there : (f : File → Result VolumeRecord VolumeFault) (o : Option File) (x : VolumeRecord) → option_and_then record_in (option_map f o) ≡ Some x → is_some o ≡ true
 text_there f None x e = absurd cc
 text_there f (Some g) x e = refl
 
@@ -132,4 +132,4 @@ openable_if_none i x all are none = go (opened.0) opened.1 (λ e first. none e (
     go : (path : List Id) → IsOpenPath (records_of i x) path → ((e : Refusal) → FirstRefusal i x all (checks all path) e → ⊥) → (v : Id) × (vs : List Id) × IsOpenable i x v vs
     go path (inl a) refused =
         (a.0, a.1, record { volumes = all; are = are; reads = a.2; passes = subst (λ (ps : List Id). (c : Check) → Contains (checks all ps) c → (e : Refusal) → Refuses i x all c e → ⊥) a.3 (none_refuses i x all (checks all path) refused) })
-    go path (inr n) refused = absurd (none_refuses i x all (checks all path) refused reading (Contains-append_right (of_volumes all) (reading ∷ both layer header path) reading (contains_here reading (both layer header path))) NoReadingVolume (n.0, refl))
+    go path (inr n) refused = absurd (none_refuses i x all (checks all path) refused reading (asks_reading all path) NoReadingVolume (n.0, refl))

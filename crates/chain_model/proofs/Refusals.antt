@@ -1,5 +1,5 @@
 -- An image has one first refusal at most.
-use Rattle.std.proofs.Common.{◌≡◌, ◌⊎◌, List, [], ◌∷◌, Option, Some, None, Result, Ok, Err, refl, sym, ap, ◌∙◌, subst, inl, inr}
+use Rattle.std.proofs.Common.{◌≡◌, ◌⊎◌, ℕ, length, arith, List, [], ◌∷◌, Option, Some, None, Result, Ok, Err, refl, sym, ap, ◌∙◌, subst, inl, inr}
 use Rattle.std.specs.Cmp.{IsTotalOrder}
 use Rattle.std.specs.List.{Contains}
 use Rattle.std.specs.List.Sorted.{IsStrictlySortedBy}
@@ -9,7 +9,11 @@ use Rattle.std.proofs.lemmas.List.Elements.{All-contains, All-from_recursion}
 use Rattle.std.proofs.lemmas.Map.Keys.{sorted_head, sorted_tail}
 use Rattle.sd_names.specs.declared.fault.VolumeFault.{VolumeFault}
 use Rattle.sd_names.specs.declared.id.Id.{Id}
+use Rattle.sd_names.specs.Refusal.{refusal_number}
+use Rattle.sd_names.specs.declared.fault.Key.TheVariants as key
+use Rattle.sd_names.specs.declared.fault.VolumeFault.TheVariants.{BadValue}
 use Rattle.sd_names.specs.declared.refusal.Refusal.{Refusal}
+use Rattle.sd_names.specs.declared.refusal.Refusal.TheVariants.{ChainTooLong, LayerRefused, MetaCorrupt, NoReadingVolume, NoVolume, WrongParent}
 use Rattle.shared_disk.specs.Content.{File}
 use Rattle.shared_disk.proofs.Outcomes.{contains_here, contains_more, nothing_in, cons_cases}
 use Rattle.volume_meta.specs.declared.record.VolumeRecord.{VolumeRecord}
@@ -19,7 +23,7 @@ use Rattle.image_model.proofs.Faults.{one_at_most}
 use Rattle.chain_model.specs.Folder.{Volumes}
 use Rattle.chain_model.specs.Records.{Image, Records, parent, records_of, text_of}
 use Rattle.chain_model.specs.Chain.{IsBelow, path_of}
-use Rattle.chain_model.specs.Opening.{AreVolumes, Check, FirstRefusal, IsBadLayer, IsBadText, IsOpenPath, IsStray, OpenFault, Refuses, capacity, checks, count, format, header, id_cmp, layer, parents, reading, ring, text, there}
+use Rattle.chain_model.specs.Opening.{AreVolumes, Check, FirstRefusal, IsBadLayer, IsBadText, IsOpenPath, IsStray, OpenFault, Refuses, capacity, checks, count, format, header, id_cmp, layer, named_by_header, opening_numbers, parents, reading, ring, text, there}
 use Rattle.chain_model.proofs.Chains.{cons_same, one_below, one_reading, same_id}
 
 -- ---- the volumes of an image are one list
@@ -126,3 +130,33 @@ one_fault i x a b p q =
     let path = one_path (records_of i x) q.path p.path q.opened p.opened in
     let first = subst (λ (ps : List Id). FirstRefusal i x p.volumes (checks p.volumes ps) b) path (subst (λ (vs : List Id). FirstRefusal i x vs (checks vs q.path) b) volumes q.first) in
     one_first i x p.volumes (checks p.volumes p.path) a b p.first first
+
+-- ---- with these numbers
+
+same_number : (a b : Refusal) (n : ℕ) → a ≡ b → refusal_number b ≡ n → Contains opening_numbers n → Contains opening_numbers (refusal_number a)
+same_number a b n e f h = subst (λ (m : ℕ). Contains opening_numbers m) (sym (ap refusal_number e ∙ f)) h
+
+text_number : (v : Id) (o : Option (Result VolumeRecord VolumeFault)) (e : Refusal) → IsBadText v o e → Contains opening_numbers (refusal_number e)
+text_number v None e p = absurd p
+text_number v (Some (Ok x)) e p = absurd p
+text_number v (Some (Err fault)) e p = same_number e (MetaCorrupt v fault) 65 p refl (2, omega arith, refl)
+
+check_number : (i : Image) (x : Volumes) (vs : List Id) (c : Check) (e : Refusal) → Refuses i x vs c e → Contains opening_numbers (refusal_number e)
+check_number i x vs count e p = same_number e (ChainTooLong (length vs)) 68 p.1 refl (4, omega arith, refl)
+check_number i x vs (text v) e p = text_number v (text_of i x v) e p
+check_number i x vs (there v) e p = same_number e (NoVolume v) 60 p.1 refl (1, omega arith, refl)
+check_number i x vs (parents v) e p = same_number e (WrongParent v p.0) 67 p.3 refl (3, omega arith, refl)
+check_number i x vs ring e p = same_number e (ChainTooLong 0) 68 p.1 refl (4, omega arith, refl)
+check_number i x vs (format v) e p = same_number e (MetaCorrupt v (BadValue key.Format)) 65 p.4 refl (2, omega arith, refl)
+check_number i x vs (capacity v) e p = same_number e (MetaCorrupt v (BadValue key.Cap)) 65 p.10 refl (2, omega arith, refl)
+check_number i x vs reading e p = same_number e NoReadingVolume 57 p.1 refl (0, omega arith, refl)
+check_number i x vs (layer v) e p = same_number e (LayerRefused v p.5) 80 p.7 refl (5, omega arith, refl)
+check_number i x vs (header v) e p = same_number e (WrongParent v (named_by_header x (records_of i x) v)) 67 p.7 refl (3, omega arith, refl)
+
+first_number : (i : Image) (x : Volumes) (vs : List Id) (cs : List Check) (e : Refusal) → FirstRefusal i x vs cs e → Contains opening_numbers (refusal_number e)
+first_number i x vs [] e f = absurd f
+first_number i x vs (c ∷ cs) e (inl p) = check_number i x vs c e p
+first_number i x vs (c ∷ cs) e (inr rest) = first_number i x vs cs e rest.1
+
+pub fault_number : (i : Image) (x : Volumes) (e : Refusal) → OpenFault i x e → Contains opening_numbers (refusal_number e)
+fault_number i x e f = first_number i x f.volumes (checks f.volumes f.path) e f.first

@@ -72,7 +72,7 @@ reached r v u (w ∷ ws) l h = go (cons_cases w u ws h) (λ g. reached r l.1 u w
     go (inl e) more = inl (l.0 ∙ e)
     go (inr g) more = inr (further (more g))
 
-record_behind : (o : Option VolumeRecord) (w : Id) → option_and_then parent_in o ≡ Some w → (x : VolumeRecord) × (o ≡ Some x)
+pub record_behind : (o : Option VolumeRecord) (w : Id) → option_and_then parent_in o ≡ Some w → (x : VolumeRecord) × (o ≡ Some x)
 record_behind None w e = absurd cc
 record_behind (Some x) w e = (x, refl)
 

@@ -1,5 +1,5 @@
 -- The chain of volumes below a volume, and the path by which it reads.
-use Rattle.std.specs.Prelude.{◌≡◌, not, List, [], ◌∷◌, filter, Some, None}
+use Rattle.std.specs.Prelude.{◌≡◌, false, not, List, [], ◌∷◌, filter, Contains, Some, None}
 use Rattle.sd_names.specs.declared.id.Id.{Id}
 use Rattle.chain_model.specs.Records.{Records, parent, is_passed}
 
@@ -28,3 +28,7 @@ counting r vs = filter (λ w. not (is_passed r w)) vs
 -- a volume reads through itself, and then through those below it that count
 abbrev pub path_of : Records → Id → List Id → List Id
 path_of r v vs = v ∷ counting r vs
+
+-- no volume of a chain is passed over, as an opening leaves it
+abbrev pub AllCount : Records → List Id → Type 0
+AllCount r vs = (w : Id) → Contains vs w → is_passed r w ≡ false

@@ -8,3 +8,4 @@ pub mod Flat
 pub mod Headers
 pub mod Covered
 pub mod Opening
+pub mod Growth

@@ -1,5 +1,5 @@
 -- Why an image can't be opened: the first refusal of a list of checks, in their order.
-use Rattle.std.specs.Prelude.{◌≡◌, ◌≢◌, ◌⊎◌, ◌<◌, true, false, List, [], ◌∷◌, ◌++◌, length, map, Contains, Option, Some, None, Result, Ok, Err, unwrap_or}
+use Rattle.std.specs.Prelude.{◌≡◌, ◌≢◌, ◌⊎◌, ℕ, ◌<◌, true, false, List, [], ◌∷◌, ◌++◌, length, map, Contains, Option, Some, None, Result, Ok, Err, unwrap_or}
 use Rattle.std.specs.Cmp.Lexicographic.{slice_cmp}
 use Rattle.std.specs.Ordering.{nat_cmp}
 use Rattle.std.specs.declared.cmp.Ordering.{Ordering}
@@ -158,3 +158,7 @@ pub record IsOpenable (i : Image) (x : Volumes) (v : Id) (vs : List Id) : Type 0
   pub are : AreVolumes x volumes
   pub reads : IsReading (records_of i x) v vs
   pub passes : (c : Check) → Contains (checks volumes (path_of (records_of i x) v vs)) c → (e : Refusal) → Refuses i x volumes c e → ⊥
+
+-- the numbers of the refusals that an opening has
+abbrev pub opening_numbers : List ℕ
+opening_numbers = 57 ∷ 60 ∷ 65 ∷ 67 ∷ 68 ∷ 80 ∷ []

@@ -1,6 +1,5 @@
 -- What the texts of an image's volumes say.
-use Rattle.std.specs.Prelude.{ℕ, Bool, true, false, ◌&&◌, ◌==◌, not, if◌then◌else◌, List, Option, Some, None, option_and_then, Result, Ok, Err}
-use Rattle.std.specs.List.{flat_map, range_with_len, take_while}
+use Rattle.std.specs.Prelude.{ℕ, Bool, true, false, ◌&&◌, not, if◌then◌else◌, List, Option, Some, None, option_and_then, Result, Ok, Err}
 use Rattle.std.specs.Option.{is_some, option_map}
 use Rattle.sd_names.specs.Id.{zero_id}
 use Rattle.sd_names.specs.declared.fault.VolumeFault.{VolumeFault}
@@ -8,6 +7,7 @@ use Rattle.sd_names.specs.declared.id.Id.{Id}
 use Rattle.sd_names.specs.declared.kinds.Legality.TheVariants.{Legal, Illegal}
 use Rattle.shared_disk.specs.Content.{File}
 use Rattle.shared_disk.specs.Places.{id_is}
+use Rattle.whole_file.specs.Text.{before_zero, bytes_of}
 use Rattle.volume_meta.specs.Read.{read_volume}
 use Rattle.volume_meta.specs.declared.record.VolumeRecord.{VolumeRecord}
 use Rattle.chain_model.specs.Folder.{Volumes}
@@ -18,9 +18,9 @@ pub record Image : Type 0 where
   pub id : Id
   pub version : ℕ
 
--- the text in a file, up to the first zero byte or the file's end
+-- the text in a file in which nothing is unsynced, up to the first zero byte or the file's end
 abbrev pub stored_text : File → List ℕ
-stored_text f = take_while (λ b. not (b == 0)) (flat_map f.stable (range_with_len 0 f.size))
+stored_text f = before_zero (bytes_of f.stable f.size)
 
 -- an image's volumes are those whose text is there
 abbrev pub is_volume : Volumes → Id → Bool
