@@ -1,9 +1,11 @@
 pub mod Asked
 pub mod Chains
+pub mod Counting
 pub mod Covers
 pub mod Flats
 pub mod LongerImages
 pub mod LongerFiles
+pub mod LongerOutcomes
 pub mod Opened
 pub mod Held
 pub mod Outcomes

@@ -37,7 +37,7 @@ no_chain r v vs ring b =
 pub id_is-Decides : (a b : Id) → Decides (id_is a b) (a ≡ b)
 id_is-Decides a b = (id_is-same a b, λ e. subst (λ (x : Id). id_is a x ≡ true) e (id_is-itself a))
 
-id_is-laws : IsEquivalence id_is
+pub id_is-laws : IsEquivalence id_is
 id_is-laws = record {
   refl = id_is-itself;
   symm = λ a b. same_from_decides (id_is a b) (id_is b a) (id_is-Decides a b) (Decides-like (id_is b a) (λ e. sym e) (λ e. sym e) (id_is-Decides b a));
@@ -84,7 +84,7 @@ held r v u (w ∷ ws) l h =
       | inr g ↦ held r l.1 u ws l.3 g
     ]
 
-none_is : (w : Id) (ws : List Id) → list_any (id_is w) ws ≡ false → AllByRecursion (λ y. id_is w y ≡ false) ws
+pub none_is : (w : Id) (ws : List Id) → list_any (id_is w) ws ≡ false → AllByRecursion (λ y. id_is w y ≡ false) ws
 none_is w [] e = tt
 none_is w (y ∷ ys) e = let parts = neither (id_is w y) (list_any (id_is w) ys) e in (parts.0, none_is w ys parts.1)
   where

@@ -1,5 +1,5 @@
 // Laws of chains of volumes, and of what they read as.
-ghost use Rattle.std.specs.Prelude.{◌≡◌, ◌⊎◌, ℕ, None, Some, ◌<◌, List, length, Contains, true};
+ghost use Rattle.std.specs.Prelude.{◌≡◌, ◌⊎◌, ℕ, None, Some, ◌<◌, List, length, Contains, Option, true};
 ghost use Rattle.sd_names.specs.declared.id.Id.{Id};
 ghost use Rattle.sd_names.specs.declared.kinds.Legality.TheVariants.{Illegal};
 ghost use Rattle.sd_names.specs.declared.place.Dir.{Dir};
@@ -51,9 +51,12 @@ pub fn merged_volumes_are_passed()
     ensures parent { (r : Records) (v : Id) → is_passed r v ≡ true → parent r v ≡ None → ⊥ }
 {}
 
-/// A law: the first volume of a chain that isn't passed over is the parent that counts.
+/// A law: where the volumes are these at most, each has one parent that counts, also one whose parents come to a ring. Where
+/// it has a chain, that is the first volume of the chain that isn't passed over.
 pub fn first_that_counts()
-    ensures { (r : Records) (v : Id) (vs : List Id) → IsBelow r v vs → IsUp r v (up_of r vs) }
+    ensures first { (r : Records) (v : Id) (vs : List Id) → IsBelow r v vs → IsUp r v (up_of r vs) }
+    ensures some { (r : Records) (all : List Id) (v : Id) → ((u : Id) (x : VolumeRecord) → r u ≡ Some x → Contains all u) → (up : Option Id) × IsUp r v up }
+    ensures one { (r : Records) (all : List Id) (v : Id) (a b : Option Id) → ((u : Id) (x : VolumeRecord) → r u ≡ Some x → Contains all u) → IsUp r v a → IsUp r v b → a ≡ b }
 {}
 
 /// A law: an image has one reading volume at most, and no other LEGAL volume reads a sector of it.

@@ -1,5 +1,5 @@
 use Rattle.chain_model.proofs.Held.{reads_first, reads_zeros}
-use Rattle.chain_model.proofs.reading.first_holder_is_read.Goals as goal
+use Rattle.chain_model.proofs.sectors.first_holder_is_read.Goals as goal
 
 pub returns-clause-held : goal.returns-clause-held
 returns-clause-held c = reads_first

@@ -1,6 +1,6 @@
 use Rattle.chain_model.proofs.Flats.{backed_flat, backed_path}
 use Rattle.chain_model.proofs.Settled.{path_backed}
-use Rattle.chain_model.proofs.reading.headers_tell_the_path.Goals as goal
+use Rattle.chain_model.proofs.sectors.headers_tell_the_path.Goals as goal
 
 pub returns-clause-path : goal.returns-clause-path
 returns-clause-path c = backed_path

@@ -1,5 +1,5 @@
 use Rattle.chain_model.proofs.Settled.{chain_backed, chain_flat}
-use Rattle.chain_model.proofs.reading.settled_headers_tell_the_chain.Goals as goal
+use Rattle.chain_model.proofs.sectors.settled_headers_tell_the_chain.Goals as goal
 
 pub returns-clause-path : goal.returns-clause-path
 returns-clause-path c = chain_backed

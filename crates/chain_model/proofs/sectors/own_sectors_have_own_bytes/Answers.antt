@@ -1,6 +1,6 @@
 use Rattle.chain_model.proofs.Held.{none_past_capacity}
 use Rattle.chain_model.proofs.OwnBytes.{layer_sector_bytes, raw_sector_bytes}
-use Rattle.chain_model.proofs.reading.own_sectors_have_own_bytes.Goals as goal
+use Rattle.chain_model.proofs.sectors.own_sectors_have_own_bytes.Goals as goal
 
 pub returns-clause-layer : goal.returns-clause-layer
 returns-clause-layer c = layer_sector_bytes
