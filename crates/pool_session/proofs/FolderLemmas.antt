@@ -8,7 +8,7 @@ use Rattle.shared_disk.specs.Content.{Content, IsEmpty}
 use Rattle.shared_disk.specs.Calls.{IsDirMade, MakesDir, parent_of}
 use Rattle.shared_disk.specs.declared.disk.DiskAnswer.{DiskAnswer}
 use Rattle.shared_disk.specs.declared.disk.DiskAnswer.TheVariants.{NoFile, Exists, OutOfFile, NotEmpty, Failed}
-use Rattle.pool_session.specs.Folders.{HasFolders, HasJust, HasSome, IsAmong}
+use Rattle.pool_session.specs.Folders.{HasJust, HasSome, IsAmong}
 
 there_after : (dirs : List Dir) (dir : Dir) (d e : Content) → HasJust dirs d → (IsAmong dirs dir → ⊥) → IsDirMade d dir e
     → (q : Dir) → (q ≡ dir) ⊎ IsAmong dirs q → e.dir q ≡ true

@@ -3,7 +3,6 @@ pub mod FaultLemmas
 pub mod ImageLemmas
 pub mod WriteLemmas
 pub mod TurnLemmas
-pub mod CommandLemmas
 pub mod MachineLemmas
 pub mod LineLemmas
 pub mod SessionLemmas

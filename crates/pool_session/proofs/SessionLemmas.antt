@@ -7,10 +7,11 @@ use Rattle.script_loop.specs.declared.status.Status.{Status}
 use Rattle.script_loop.specs.declared.status.Status.TheVariants as status
 use Rattle.script_loop.proofs.Follows.{ends_follow, never_ends_short}
 use Rattle.shared_disk.specs.Content.{Content}
-use Rattle.pool_session.specs.Command.{is_silent}
+use Rattle.script_lines.specs.Event.{event_of}
+use Rattle.pool_session.specs.Request.{is_built, is_silent}
 use Rattle.pool_session.specs.Machine.{State, Stands}
 use Rattle.pool_session.specs.Program.{IfRan}
-use Rattle.pool_session.specs.Run.{RunsLine, Flat, FlatSays, flat_reply, SomeSays, some_reply}
+use Rattle.pool_session.specs.Run.{RunsEvent, Flat, FlatSays, flat_reply, FindsNone, SomeSays, some_reply}
 use Rattle.pool_session.specs.RunsAt.{Reached, state_at}
 use Rattle.pool_session.specs.Session.{SessionSays, kept_reply}
 use Rattle.pool_session.specs.declared.session.Session.{Session}
@@ -42,7 +43,7 @@ not_short_by false (inr e) = cc
 
 module _ {D : Type 0} (content : D → Option Content) (faults : D → ℕ) where
   never : (m : Session) (d : D) (number : ℕ) (text : List ℕ) (m' : Session) (d' : D) → SessionSays content faults m d number text outcome.Memory m' d' → ⊥
-  never m d number text m' d' said = not_short_by (is_silent text) said.0
+  never m d number text m' d' said = not_short_by (is_silent (event_of is_built text)) said.0
 
   pub never_short : (refused : ℕ) (m m' : Session) (d d' : D) (left left' given given' : Option (List ℕ)) → Ends (SessionSays content faults) kept_reply status.Memory refused m d left left' given given' m' d' → ⊥
   never_short refused m m' d d' left left' given given' ends =
@@ -59,13 +60,22 @@ module _ {D : Type 0} (content : D → Option Content) (faults : D → ℕ) wher
   flat_step : (m : Session) (d : D) (n : Flat) (e : Unit {0}) (number : ℕ) (text : List ℕ) (outcome : LineOutcome) (m' : Session) (d' : D) → StandsAt m d n e → SessionSays content faults m d number text outcome m' d'
       → (n' : Flat) × (e' : Unit {0}) × FlatSays n e number text outcome n' e' × StandsAt m' d' n' e'
   flat_step m d n e number text outcome m' d' stands said =
-      let ran = said.1 stands.flat stands.refusals stands.reached in
+      let ran = said.2 stands.flat stands.refusals stands.reached in
       let t = state_at m'.machine.stage ran.0 (faults d') ran.1 in (
         record { state = t; reply = kept_reply m' },
         tt,
-        subst (λ (s : State). RunsLine number s text outcome (kept_reply m') t) (sym stands.state) ran.3,
+        subst (λ (s : State). RunsEvent number s (event_of is_built text) outcome (kept_reply m') t) (sym stands.state) ran.3,
         record { flat = ran.0; refusals = ran.1; reached = ran.2; state = refl; reply = refl },
       )
+
+  -- the reply that is kept, over the same disk
+  abbrev SameReply : Session → D → List ℕ → D → Type 0
+  SameReply m d n e = (kept_reply m ≡ n) × (d ≡ e)
+
+  some_step : (m : Session) (d : D) (n : List ℕ) (e : D) (number : ℕ) (text : List ℕ) (outcome : LineOutcome) (m' : Session) (d' : D) → SameReply m d n e → SessionSays content faults m d number text outcome m' d'
+      → (n' : List ℕ) × (e' : D) × SomeSays content n e number text outcome n' e' × SameReply m' d' n' e'
+  some_step m d n e number text outcome m' d' same said =
+      (kept_reply m', d', (said.0, subst (λ (disk : D). FindsNone (event_of is_built text) outcome (content disk)) same.1 said.1), (refl, refl))
 
   module _ (status : Status) (refused : ℕ) (m m' : Session) (d d' : D) (left left' given given' : Option (List ℕ)) (ends : Ends (SessionSays content faults) kept_reply status refused m d left left' given given' m' d') where
     -- a session as the flat machine runs it
@@ -84,9 +94,8 @@ module _ {D : Type 0} (content : D → Option Content) (faults : D → ℕ) wher
           next.2,
         )
 
-    -- a session over any disk
-    pub some_ends : (reply : List ℕ) → kept_reply m ≡ reply → (reply' : List ℕ) × Ends SomeSays some_reply status refused reply tt left left' given given' reply' tt
+    -- a session over any disk, by its replies
+    pub some_ends : (reply : List ℕ) → kept_reply m ≡ reply → (reply' : List ℕ) × Ends (SomeSays content) some_reply status refused reply d left left' given given' reply' d'
     some_ends reply same =
-        let next = ends_follow (SessionSays content faults) kept_reply SomeSays some_reply (λ m d n e. kept_reply m ≡ n)
-        (λ m d n e number text outcome m' d' stands said. (kept_reply m', tt, said.0, refl)) (λ m d n e stands. stands) m m' d d' reply tt same refused left left' given given' status ends in
-        (next.0, next.2)
+        let next = ends_follow (SessionSays content faults) kept_reply (SomeSays content) some_reply SameReply some_step (λ m d n e same. same.0) m m' d d' reply d (same, refl) refused left left' given given' status ends in
+        (next.0, subst (λ (disk : D). Ends (SomeSays content) some_reply status refused reply d left left' given given' next.0 disk) (sym next.3.1) next.2)

@@ -1,26 +1,38 @@
--- What a reply says, and its text.
-use Rattle.std.specs.Prelude.{ℕ, Bool, true, false, List, [], ◌∷◌, ◌++◌, codes, decimal}
-use Rattle.sd_names.specs.declared.refusal.Refusal.{Refusal}
-use Rattle.sd_names.specs.Refusal.{refusal_text}
+-- What the machine answers: a reply, and the bytes that a read hands out.
+use Rattle.std.specs.Prelude.{◌≡◌, ℕ, ◌%◌, ◌≤◌, Bool, true, false, List, length, take}
+use Rattle.sd_names.specs.declared.verb.Payload.TheVariants.{Read}
+use Rattle.script_lines.specs.Reply.{IsBounded}
+use Rattle.script_lines.specs.declared.reply.Reply.{Reply}
+use Rattle.script_lines.specs.declared.reply.Reply.TheVariants.{Done, Refused}
+use Rattle.script_loop.specs.declared.runner.LineOutcome.{LineOutcome}
+use Rattle.script_loop.specs.declared.runner.LineOutcome.TheVariants as outcome
 
--- a line was done, or done with these bytes behind `ok`, or refused
-pub data Answer : Type 0 where
-  plain : Answer
-  done : List ℕ → Answer
-  refused : Refusal → Answer
+-- a reply, and the bytes that it hands out
+abbrev pub Answer : Type 0
+Answer = Reply × List ℕ
 
 -- whether it is a refusal
-abbrev pub is_refusal : Answer → Bool
-is_refusal plain = false
-is_refusal (done payload) = false
-is_refusal (refused refusal) = true
+abbrev pub is_refusal : Reply → Bool
+is_refusal (Refused refusal) = true
+is_refusal _ = false
 
--- what stands behind the number and a space
-abbrev pub body_of : Answer → List ℕ
-body_of plain = codes "ok"
-body_of (done payload) = codes "ok " ++ payload
-body_of (refused refusal) = codes "refused " ++ refusal_text refusal
+-- what a reply makes of its line
+abbrev pub outcome_for : Reply → LineOutcome
+outcome_for (Refused refusal) = outcome.Refused
+outcome_for _ = outcome.Done
 
--- the reply to the line of a number, from 1
-abbrev pub reply_text : ℕ → Answer → List ℕ
-reply_text number answer = (decimal number ++ 32 ∷ []) ++ (body_of answer ++ 10 ∷ [])
+-- how many bytes a reply hands out
+abbrev pub read_count : Reply → ℕ
+read_count (Done (Read count)) = count
+read_count _ = 0
+
+-- the answer, with the bytes that were read at the front of the room
+abbrev pub answer_in : Reply → List ℕ → Answer
+answer_in said room = (said, take (read_count said) room)
+
+-- a reply's text has bounds, and bytes that were read are whole sectors, 65,536 bytes at most, which stand in the room
+pub record IsPrintable (said : Reply) (room : List ℕ) : Type 0 where
+  pub bounded : IsBounded said
+  pub whole : read_count said % 512 ≡ 0
+  pub few : read_count said ≤ 65536
+  pub within : read_count said ≤ length room

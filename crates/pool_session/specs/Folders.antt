@@ -1,5 +1,5 @@
 -- Which folders are there.
-use Rattle.std.specs.Prelude.{◌≡◌, ◌≢◌, ◌⊎◌, true, false, List, [], ◌∷◌, None}
+use Rattle.std.specs.Prelude.{◌≡◌, ◌≢◌, ◌⊎◌, true, false, List, [], ◌∷◌, Option, Some, None}
 use Rattle.sd_names.specs.declared.id.Id.{Id}
 use Rattle.sd_names.specs.declared.place.Dir.{Dir}
 use Rattle.sd_names.specs.declared.place.Dir.TheVariants.{Root, Domain, DomMd, Images, Master, Tasks}
@@ -49,3 +49,7 @@ HasDomain sd d = HasJust (with_made (Root ∷ []) (folders_of sd)) d
 -- Root is there and the first so many of the domain's folders, and nothing else
 abbrev pub HasPartOfDomain : Id → Content → Type 0
 HasPartOfDomain sd d = HasSome (Root ∷ []) (folders_of sd) d
+
+-- where the disk tells what it holds, the domain's folder isn't there
+abbrev pub HasNoFolder : Id → Option Content → Type 0
+HasNoFolder sd content = (d : Content) → content ≡ Some d → d.dir (Domain sd) ≡ false

@@ -1,13 +1,11 @@
 pub mod Answer
 pub mod Capacity
-pub mod Command
 pub mod Fault
 pub mod Folders
 pub mod Image
 pub mod Machine
 pub mod Program
-pub mod Reply
+pub mod Request
 pub mod Run
 pub mod RunsAt
 pub mod Session
-pub mod Words

@@ -1,22 +1,24 @@
 -- How the flat machine runs a line, and any machine of a session.
-use Rattle.std.specs.Prelude.{◌≡◌, ◌⊎◌, ℕ, List, MatchBool}
+use Rattle.std.specs.Prelude.{◌≡◌, ◌⊎◌, ℕ, List, [], Ok, MatchBool, Option}
+use Rattle.sd_names.specs.declared.id.Id.{Id}
+use Rattle.script_lines.specs.Event.{event_of}
+use Rattle.script_lines.specs.Reply.{reply_text}
+use Rattle.script_lines.specs.Said.{Event}
 use Rattle.script_loop.specs.declared.runner.LineOutcome.{LineOutcome}
 use Rattle.script_loop.specs.declared.runner.LineOutcome.TheVariants as outcome
-use Rattle.pool_session.specs.Answer.{Answer, plain, done, refused, reply_text}
-use Rattle.pool_session.specs.Command.{asked_of, is_silent}
+use Rattle.shared_disk.specs.Content.{Content}
+use Rattle.pool_session.specs.Answer.{Answer, outcome_for}
+use Rattle.pool_session.specs.Folders.{HasNoFolder}
 use Rattle.pool_session.specs.Machine.{State, Answers}
+use Rattle.pool_session.specs.Request.{asked_of, is_built, is_silent}
+use Rattle.pool_session.specs.declared.request.Request.TheVariants.{MakePool}
 
--- what an answer makes of its line
-abbrev pub outcome_for : Answer → LineOutcome
-outcome_for plain = outcome.Done
-outcome_for (done payload) = outcome.Done
-outcome_for (refused refusal) = outcome.Refused
-
--- From a state, the line of a number has this outcome and this reply, and leaves that state: a silent line changes nothing.
-abbrev pub RunsLine : ℕ → State → List ℕ → LineOutcome → List ℕ → State → Type 0
-RunsLine number s line came reply t = MatchBool (is_silent line)
+-- From a state, the line of a number that is this event has this outcome and this reply, and leaves that state: a silent
+-- line changes nothing.
+abbrev pub RunsEvent : ℕ → State → Event → LineOutcome → List ℕ → State → Type 0
+RunsEvent number s event came reply t = MatchBool (is_silent event)
     ((came ≡ outcome.Silent) × (t ≡ s))
-    ((answer : Answer) × Answers s (asked_of line) answer t × (came ≡ outcome_for answer) × (reply ≡ reply_text number answer))
+    ((answer : Answer) × Answers s (asked_of event) answer t × (came ≡ outcome_for answer.0) × (reply ≡ reply_text number answer.0 answer.1))
 
 -- the flat machine, and the reply that it gave last
 pub record Flat : Type 0 where
@@ -28,15 +30,20 @@ flat_reply flat = flat.reply
 
 -- how the flat machine runs a line; it keeps the image itself, so it has no disk
 abbrev pub FlatSays : Flat → Unit {0} → ℕ → List ℕ → LineOutcome → Flat → Unit {0} → Type 0
-FlatSays before _ number line outcome after _ = RunsLine number before.state line outcome after.reply after.state
+FlatSays before _ number line outcome after _ = RunsEvent number before.state (event_of is_built line) outcome after.reply after.state
 
--- a line is silent where it is empty or a remark, and else done or refused
-abbrev pub IsOutcome : List ℕ → LineOutcome → Type 0
-IsOutcome line came = MatchBool (is_silent line) (came ≡ outcome.Silent) ((came ≡ outcome.Done) ⊎ (came ≡ outcome.Refused))
+-- an event is silent where its line is empty or a remark, and else done or refused
+abbrev pub IsOutcome : Event → LineOutcome → Type 0
+IsOutcome event came = MatchBool (is_silent event) (came ≡ outcome.Silent) ((came ≡ outcome.Done) ⊎ (came ≡ outcome.Refused))
 
--- how any machine of a session runs a line: nothing is said of the reply
-abbrev pub SomeSays : List ℕ → Unit {0} → ℕ → List ℕ → LineOutcome → List ℕ → Unit {0} → Type 0
-SomeSays before _ number line outcome after _ = IsOutcome line outcome
+-- A `make-pool` that is done has found no folder of its domain, where the disk tells what it holds.
+abbrev pub FindsNone : Event → LineOutcome → Option Content → Type 0
+FindsNone event came content = (sd : Id) → asked_of event ≡ Ok (MakePool sd, []) → came ≡ outcome.Done → HasNoFolder sd content
+
+-- how any machine of a session runs a line, over a disk that tells this: nothing is said of the reply
+abbrev pub SomeSays : {D : Type 0} → (D → Option Content) → List ℕ → D → ℕ → List ℕ → LineOutcome → List ℕ → D → Type 0
+SomeSays content before d number line outcome after e =
+    IsOutcome (event_of is_built line) outcome × FindsNone (event_of is_built line) outcome (content d)
 
 abbrev pub some_reply : List ℕ → List ℕ
 some_reply reply = reply

@@ -1,10 +1,10 @@
 // The folders of a domain.
 ghost use Rattle.std.specs.Prelude.{◌≡◌, ◌≢◌, ◌≤◌, ◌∷◌, [], List, Some, false, IfOk, MatchResult};
-ghost use Rattle.sd_names.specs.declared.place.Dir.TheVariants.{Root, Domain};
+ghost use Rattle.sd_names.specs.declared.place.Dir.TheVariants.{Root};
 ghost use Rattle.shared_disk.specs.Content.{Content, IsEmpty};
 ghost use Rattle.shared_disk.specs.Calls.{IsDirMade, Told, parent_of};
 ghost use Rattle.pool_session.specs.Fault.{IsFault};
-ghost use Rattle.pool_session.specs.Folders.{HasJust, HasSome, HasDomain, HasPartOfDomain, IsAmong, IsOrderly, with_made};
+ghost use Rattle.pool_session.specs.Folders.{HasJust, HasSome, HasDomain, HasNoFolder, HasPartOfDomain, IsAmong, IsOrderly, with_made};
 
 use sd_names::{Dir, HostId, Id, Refusal};
 use shared_disk::{SharedDisk, refusal_for};
@@ -44,7 +44,7 @@ fn make_dirs<D: SharedDisk>(host: HostId, dirs: &[Dir], disk: &mut D) -> Result<
 /// Makes the folders of a domain, none of which is there, in an empty folder. A fault leaves the first so many.
 pub fn make_folders<D: SharedDisk>(host: HostId, sd: Id, disk: &mut D) -> Result<(), Refusal>
     ensures count { D.faults disk.old ≤ D.faults disk.new }
-    ensures new { IfOk result (λ _. (d : Content) → D.content disk.old ≡ Some d → d.dir (Domain sd) ≡ false) }
+    ensures new { IfOk result (λ _. HasNoFolder sd (D.content disk.old)) }
     ensures content { (d : Content) → D.content disk.old ≡ Some d → IsEmpty d
         → (e : Content) × (D.content disk.new ≡ Some e)
         × MatchResult result (λ _. HasDomain sd e) (λ refusal. IsFault (D.faults disk.old) (D.faults disk.new) refusal × HasPartOfDomain sd e) }

@@ -1,4 +1,4 @@
-// The machine of a session: it answers one command after the other over a disk.
+// The machine of a session: it answers one line after the other over a disk.
 ghost use Rattle.std.specs.Prelude.{◌≡◌, ◌≤◌, ◌+◌, ◌/◌, ◌%◌, ℕ, List, Some, length, take, IfNone, MatchResult};
 ghost use Rattle.shared_disk.specs.Content.{Content};
 ghost use Rattle.shared_disk.specs.Calls.{IsAligned, IsPiece};
@@ -6,12 +6,12 @@ ghost use Rattle.pool_session.specs.Fault.{IsFault};
 ghost use Rattle.pool_session.specs.Image.{HoldsFlat, ReadsFlat};
 ghost use Rattle.pool_session.specs.Machine.{part_refusal};
 
-use crate::command::Command;
 use crate::folders::make_folders;
 use crate::image::Image;
-use crate::reply::Reply;
+use crate::request::asked;
 use crate::stage::{Act, Stage};
-use sd_names::{HostId, Id, Refusal};
+use script_lines::{Line, Reply};
+use sd_names::{HostId, Id, Payload, Refusal};
 use shared_disk::SharedDisk;
 
 /// The one host of a session, and the stage that it has reached.
@@ -23,12 +23,15 @@ pub struct Machine {
 }
 
 impl Machine {
-    ghost use Rattle.std.specs.Prelude.{◌≡◌, ◌≤◌, [], ℕ, List, length, take, option_and_then, IfSome, IsSome};
-    ghost use Rattle.std.specs.Option.{option_map};
+    ghost use Rattle.std.specs.Prelude.{◌≡◌, ◌≤◌, [], Ok, Err, ℕ, List, false, length, IfSome, IfOk, IsSome, MatchResult};
+    ghost use Rattle.sd_names.specs.declared.id.Id.{Id};
+    ghost use Rattle.script_lines.specs.Event.{event_by};
+    ghost use Rattle.pool_session.specs.Answer.{IsPrintable, answer_in, is_refusal};
     ghost use Rattle.pool_session.specs.Capacity.{IsCapacity};
-    ghost use Rattle.pool_session.specs.Command.{IsSound, count_of};
-    ghost use Rattle.pool_session.specs.Machine.{act_of, ActsAt, AnswersAt, IsSoundAct, written_by};
-    ghost use Rattle.pool_session.specs.Reply.{IsPrintable, answer_of};
+    ghost use Rattle.pool_session.specs.Folders.{HasNoFolder};
+    ghost use Rattle.pool_session.specs.Machine.{due_of, ActsAt, AnswersAt, IsSoundAct};
+    ghost use Rattle.pool_session.specs.Request.{asked_of};
+    ghost use Rattle.pool_session.specs.declared.request.Request.TheVariants.{MakePool};
 
     /// The machine before the first line: host 1, which is off.
     pub fn new() -> Option<Machine>
@@ -42,44 +45,45 @@ impl Machine {
         })
     }
 
-    /// Answers a command, or a line that asks for nothing.
-    pub fn answer<D: SharedDisk>(
-        &mut self,
-        command: Option<Command>,
-        room: &mut [u8],
-        disk: &mut D,
-    ) -> Reply
-        requires sound { IfSome command IsSound }
+    /// Answers a line that isn't silent. What a read hands out stands at the front of the room, which has 65,536 bytes. A
+    /// `make-pool` that is done has found no folder of its domain, whatever the disk holds.
+    pub fn answer<D: SharedDisk>(&mut self, line: &Line<'_>, room: &mut [u8], disk: &mut D) -> Reply
         requires room { length room.old ≡ 65536 }
         ensures printable { IsPrintable result room.new }
         ensures count { D.faults disk.old ≤ D.faults disk.new }
+        ensures new { (sd : Id) → asked_of (event_by line.now) ≡ Ok (MakePool sd, []) → is_refusal result ≡ false → HasNoFolder sd (D.content disk.old) }
         ensures content { AnswersAt (D.content disk.old) (D.content disk.new) self.old.stage self.new.stage (D.faults disk.old) (D.faults disk.new)
-            (option_map (λ c. (c, take (count_of c) room.old)) command) (answer_of result room.new) }
+            (asked_of (event_by line.now)) (answer_in result room.new) }
     {
-        match self.due(command) {
-            Some(act) => self.run(act, room, disk),
-            None => Reply::Refused(Refusal::NotBuilt),
+        match self.due(line) {
+            Ok((act, bytes)) => self.run(act, bytes, room, disk),
+            Err(refusal) => Reply::Refused(refusal),
         }
     }
 
-    // What a command comes to at this stage.
-    fn due(&self, command: Option<Command>) -> Option<Act>
-        requires { IfSome command IsSound }
-        ensures act { result ≡ option_and_then (act_of self.now.stage) command }
-        ensures sound { IfSome result IsSoundAct }
+    // What a line comes to at this stage, and the bytes that it writes, or why it is refused.
+    fn due<'a>(&self, line: &Line<'a>) -> Result<(Act, &'a [u8]), Refusal>
+        ensures due { MatchResult result
+            (λ due. due_of self.now.stage (asked_of (event_by line.now)) ≡ Ok (due.0, due.1.now))
+            (λ refusal. due_of self.now.stage (asked_of (event_by line.now)) ≡ Err refusal) }
+        ensures sound { IfOk result (λ due. IsSoundAct due.0 due.1.now) }
     {
-        let command = command?;
-        self.stage.act(&command)
+        let (request, bytes) = asked(line)?;
+        match self.stage.act(&request) {
+            Some(act) => Ok((act, bytes)),
+            None => Err(Refusal::NotBuilt),
+        }
     }
 
-    // Does what is due.
-    fn run<D: SharedDisk>(&mut self, act: Act, room: &mut [u8], disk: &mut D) -> Reply
-        requires sound { IsSoundAct act }
+    // Does what is due, with the bytes that it writes.
+    fn run<D: SharedDisk>(&mut self, act: Act, bytes: &[u8], room: &mut [u8], disk: &mut D) -> Reply
+        requires sound { IsSoundAct act bytes.now }
         requires room { length room.old ≡ 65536 }
         ensures printable { IsPrintable result room.new }
         ensures count { D.faults disk.old ≤ D.faults disk.new }
+        ensures new { (sd : Id) → act ≡ Act.MakePool sd → is_refusal result ≡ false → HasNoFolder sd (D.content disk.old) }
         ensures content { ActsAt (D.content disk.old) (D.content disk.new) self.old.stage self.new.stage (D.faults disk.old) (D.faults disk.new)
-            act (take (written_by act) room.old) (answer_of result room.new) }
+            act bytes.now (answer_in result room.new) }
     {
         match act {
             Act::Boot => {
@@ -89,14 +93,17 @@ impl Machine {
             Act::MakePool(sd) => self.make_pool(sd, disk),
             Act::SpmStart(sd) => {
                 self.stage = Stage::Managed(sd);
-                Reply::Version(1)
+                Reply::Done(Payload::SpmStart(1))
             }
             Act::Create(image) => self.create(image, disk),
             Act::Open(image) => {
                 self.stage = Stage::Opened(image);
-                Reply::Opened(image.volume, image.capacity)
+                Reply::Done(Payload::Open {
+                    reading: image.volume,
+                    capacity: image.capacity,
+                })
             }
-            Act::Write(image, at, count) => self.write(image, at, front(room, count), disk),
+            Act::Write(image, at) => self.write(image, at, bytes, disk),
             Act::Read(image, at, count) => self.read(image, at, count, room, disk),
         }
     }
@@ -104,13 +111,14 @@ impl Machine {
     fn make_pool<D: SharedDisk>(&mut self, sd: Id, disk: &mut D) -> Reply
         ensures printable { (room : List ℕ) → IsPrintable result room }
         ensures count { D.faults disk.old ≤ D.faults disk.new }
-        ensures content { (room : List ℕ) → ActsAt (D.content disk.old) (D.content disk.new) self.old.stage self.new.stage (D.faults disk.old) (D.faults disk.new)
-            (Act.MakePool sd) [] (answer_of result room) }
+        ensures new { is_refusal result ≡ false → HasNoFolder sd (D.content disk.old) }
+        ensures content { (bytes room : List ℕ) → ActsAt (D.content disk.old) (D.content disk.new) self.old.stage self.new.stage (D.faults disk.old) (D.faults disk.new)
+            (Act.MakePool sd) bytes (answer_in result room) }
     {
         match make_folders(self.host, sd, disk) {
             Ok(()) => {
                 self.stage = Stage::Pooled(sd);
-                Reply::Plain
+                Reply::Done(Payload::MakePool)
             }
             Err(refusal) => {
                 self.stage = Stage::MakePoolStopped(sd);
@@ -123,13 +131,13 @@ impl Machine {
         requires { IsCapacity image.capacity }
         ensures printable { (room : List ℕ) → IsPrintable result room }
         ensures count { D.faults disk.old ≤ D.faults disk.new }
-        ensures content { (room : List ℕ) → ActsAt (D.content disk.old) (D.content disk.new) self.old.stage self.new.stage (D.faults disk.old) (D.faults disk.new)
-            (Act.Create image) [] (answer_of result room) }
+        ensures content { (bytes room : List ℕ) → ActsAt (D.content disk.old) (D.content disk.new) self.old.stage self.new.stage (D.faults disk.old) (D.faults disk.new)
+            (Act.Create image) bytes (answer_in result room) }
     {
         match image.create(self.host, disk) {
             Ok(()) => {
                 self.stage = Stage::Created(image);
-                Reply::Plain
+                Reply::Done(Payload::Create)
             }
             Err(refusal) => {
                 self.stage = Stage::CreateStopped(image);
@@ -144,7 +152,7 @@ impl Machine {
         ensures printable { (room : List ℕ) → IsPrintable result room }
         ensures count { D.faults disk.old ≤ D.faults disk.new }
         ensures content { (room : List ℕ) → ActsAt (D.content disk.old) (D.content disk.new) self.old.stage self.new.stage (D.faults disk.old) (D.faults disk.new)
-            (Act.Write image at (length part.now)) part.now (answer_of result room) }
+            (Act.Write image at) part.now (answer_in result room) }
     {
         if let Some(refusal) = part_refusal(at, part.len(), image.capacity) {
             self.stage = Stage::Opened(image);
@@ -153,7 +161,7 @@ impl Machine {
         match image.write(self.host, at, part, disk) {
             Ok(()) => {
                 self.stage = Stage::Opened(image);
-                Reply::Plain
+                Reply::Done(Payload::Write)
             }
             Err(refusal) => {
                 self.stage = Stage::Stopped(image);
@@ -166,7 +174,7 @@ impl Machine {
         &mut self,
         image: Image,
         at: u64,
-        count: usize,
+        count: u32,
         room: &mut [u8],
         disk: &mut D,
     ) -> Reply
@@ -175,17 +183,18 @@ impl Machine {
         requires room { length room.old ≡ 65536 }
         ensures printable { IsPrintable result room.new }
         ensures count { D.faults disk.old ≤ D.faults disk.new }
-        ensures content { ActsAt (D.content disk.old) (D.content disk.new) self.old.stage self.new.stage (D.faults disk.old) (D.faults disk.new)
-            (Act.Read image at count) [] (answer_of result room.new) }
+        ensures content { (bytes : List ℕ) → ActsAt (D.content disk.old) (D.content disk.new) self.old.stage self.new.stage (D.faults disk.old) (D.faults disk.new)
+            (Act.Read image at count) bytes (answer_in result room.new) }
     {
-        if let Some(refusal) = part_refusal(at, count, image.capacity) {
+        let length = count as usize;
+        if let Some(refusal) = part_refusal(at, length, image.capacity) {
             self.stage = Stage::Opened(image);
             return Reply::Refused(refusal);
         }
-        match read_front(&image, self.host, at, count, room, disk) {
+        match read_front(&image, self.host, at, length, room, disk) {
             Ok(()) => {
                 self.stage = Stage::Opened(image);
-                Reply::Bytes(count)
+                Reply::Done(Payload::Read { length: count })
             }
             Err(refusal) => {
                 self.stage = Stage::Stopped(image);
@@ -193,15 +202,6 @@ impl Machine {
             }
         }
     }
-}
-
-/// So many bytes at the front of some room.
-pub fn front(room: &[u8], count: usize) -> &[u8]
-    requires { count ≤ length room.now }
-    ensures front { result.now ≡ take count room.now }
-    ensures length { length result.now ≡ count }
-{
-    &room[..count]
 }
 
 /// Reads so many bytes of an image from an offset on to the front of some room.

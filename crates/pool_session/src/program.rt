@@ -21,7 +21,8 @@ use std::alloc::Global;
 /// leaves the source as it is.
 ///
 /// The script is run as [`run_script`] says: line by line as it comes, each reply before more is read, up to 67,108,864 bytes.
-/// Where the disk tells that it is empty at first, the replies are those of a flat machine (`ends`).
+/// Where the disk tells that it is empty at first, the replies are those of a flat machine (`ends`). On every disk a folder that
+/// is there isn't taken for made (`runs`).
 ///
 /// `moment` is the time in seconds since 1970, where the words give none; no line needs it yet. The memory that a session
 /// needs is taken from `alloc` before the first line.
@@ -45,7 +46,7 @@ pub fn vdsm<'a, S: Source, K: Sink, D: SharedDisk>(
     ensures bounded { (input : List ℕ) → S.left source.old ≡ Some input → TakesAtMost input (S.left source.new) }
     ensures runs { IfRan result ((left : Option (List ℕ)) × (left' : Option (List ℕ)) × (refused : ℕ) × (reply : List ℕ)
         × Gives (asked (map (λ word. word.now) words.now)) (S.left source.old) (S.left source.new) left left'
-        × Ends SomeSays some_reply result refused [] tt left left' (K.given sink.old) (K.given sink.new) reply tt) }
+        × Ends (SomeSays D.content) some_reply result refused [] disk.old left left' (K.given sink.old) (K.given sink.new) reply disk.new) }
     ensures ends { (d : Content) → D.content disk.old ≡ Some d → IsEmpty d → IfRan result ((left : Option (List ℕ)) × (left' : Option (List ℕ)) × (refused : ℕ) × (e : Content) × (t : Flat)
         × Gives (asked (map (λ word. word.now) words.now)) (S.left source.old) (S.left source.new) left left'
         × (D.content disk.new ≡ Some e) × Stands t.state.stage t.state.flat e × (t.state.faults ≡ D.faults disk.new)
@@ -77,7 +78,7 @@ fn run_command<S: Source, K: Sink, D: SharedDisk>(
     ensures bounded { (input : List ℕ) → S.left source.old ≡ Some input → TakesAtMost input (S.left source.new) }
     ensures runs { IfRan result ((left : Option (List ℕ)) × (left' : Option (List ℕ)) × (refused : ℕ) × (reply : List ℕ)
         × Gives (Some (asked_by command.now)) (S.left source.old) (S.left source.new) left left'
-        × Ends SomeSays some_reply result refused [] tt left left' (K.given sink.old) (K.given sink.new) reply tt) }
+        × Ends (SomeSays D.content) some_reply result refused [] disk.old left left' (K.given sink.old) (K.given sink.new) reply disk.new) }
     ensures ends { (d : Content) → D.content disk.old ≡ Some d → IsEmpty d → IfRan result ((left : Option (List ℕ)) × (left' : Option (List ℕ)) × (refused : ℕ) × (e : Content) × (t : Flat)
         × Gives (Some (asked_by command.now)) (S.left source.old) (S.left source.new) left left'
         × (D.content disk.new ≡ Some e) × Stands t.state.stage t.state.flat e × (t.state.faults ≡ D.faults disk.new)
@@ -101,7 +102,7 @@ fn run_lines<K: Sink, D: SharedDisk>(
     ensures sink_faults { SinkFaults result (K.faults sink.old) (K.faults sink.new) }
     ensures runs { IfRan result ((left : Option (List ℕ)) × (left' : Option (List ℕ)) × (refused : ℕ) × (reply : List ℕ)
         × (left ≡ Some (script_of (map (λ line. line.now) lines.now)))
-        × Ends SomeSays some_reply result refused [] tt left left' (K.given sink.old) (K.given sink.new) reply tt) }
+        × Ends (SomeSays D.content) some_reply result refused [] disk.old left left' (K.given sink.old) (K.given sink.new) reply disk.new) }
     ensures ends { (d : Content) → D.content disk.old ≡ Some d → IsEmpty d → IfRan result ((left : Option (List ℕ)) × (left' : Option (List ℕ)) × (refused : ℕ) × (e : Content) × (t : Flat)
         × (left ≡ Some (script_of (map (λ line. line.now) lines.now)))
         × (D.content disk.new ≡ Some e) × Stands t.state.stage t.state.flat e × (t.state.faults ≡ D.faults disk.new)
@@ -126,7 +127,7 @@ fn run_session<S: Source, K: Sink, D: SharedDisk>(
     ensures sink_faults { SinkFaults result (K.faults sink.old) (K.faults sink.new) }
     ensures bounded { (input : List ℕ) → S.left source.old ≡ Some input → TakesAtMost input (S.left source.new) }
     ensures runs { IfRan result ((refused : ℕ) × (reply : List ℕ)
-        × Ends SomeSays some_reply result refused [] tt (S.left source.old) (S.left source.new) (K.given sink.old) (K.given sink.new) reply tt) }
+        × Ends (SomeSays D.content) some_reply result refused [] disk.old (S.left source.old) (S.left source.new) (K.given sink.old) (K.given sink.new) reply disk.new) }
     ensures ends { (d : Content) → D.content disk.old ≡ Some d → IsEmpty d → IfRan result ((refused : ℕ) × (e : Content) × (t : Flat)
         × (D.content disk.new ≡ Some e) × Stands t.state.stage t.state.flat e × (t.state.faults ≡ D.faults disk.new)
         × Ends FlatSays flat_reply result refused (start (D.faults disk.old)) tt (S.left source.old) (S.left source.new) (K.given sink.old) (K.given sink.new) t tt) }

@@ -2,8 +2,8 @@
 ghost use Rattle.std.specs.Prelude.{◌≡◌, Some, None, if◌then◌else◌};
 ghost use Rattle.pool_session.specs.Machine.{same_id};
 
-use crate::command::Command;
 use crate::image::Image;
+use crate::request::Request;
 use sd_names::Id;
 
 /// The stage that a session has reached: the next line has to ask for what it waits for.
@@ -29,7 +29,7 @@ pub enum Stage {
     Stopped(Image),
 }
 
-/// What a command comes to at the stage that waits for it.
+/// What a request comes to at the stage that waits for it.
 #[derive(Clone, Copy, Debug)]
 pub enum Act {
     Boot,
@@ -37,49 +37,48 @@ pub enum Act {
     SpmStart(Id),
     Create(Image),
     Open(Image),
-    /// Writes so many bytes, from an offset on.
-    Write(Image, u64, usize),
+    /// Writes the bytes that stand beside it, from an offset on.
+    Write(Image, u64),
     /// Reads so many bytes, from an offset on.
-    Read(Image, u64, usize),
+    Read(Image, u64, u32),
 }
 
 impl Stage {
-    ghost use Rattle.std.specs.Prelude.{◌≡◌, IfSome};
-    ghost use Rattle.pool_session.specs.Command.{IsSound};
+    ghost use Rattle.std.specs.Prelude.{◌≡◌, List, ℕ, IfSome};
+    ghost use Rattle.pool_session.specs.Request.{IsSound};
     ghost use Rattle.pool_session.specs.Machine.{act_of, IsSoundAct};
 
-    /// What a command comes to, if the stage waits for it and it names the same domain and image.
-    pub fn act(&self, command: &Command) -> Option<Act>
-        requires { IsSound command.now }
-        ensures act { result ≡ act_of self.now command.now }
-        ensures sound { IfSome result IsSoundAct }
+    /// What a request comes to, if the stage waits for it and it names the same domain and image.
+    pub fn act(&self, request: &Request) -> Option<Act>
+        ensures act { result ≡ act_of self.now request.now }
+        ensures sound { (bytes : List ℕ) → IsSound request.now bytes → IfSome result (λ act. IsSoundAct act bytes) }
     {
-        match (self, command) {
-            (Stage::Off, Command::Boot) => Some(Act::Boot),
-            (Stage::Up, Command::MakePool(sd)) => Some(Act::MakePool(*sd)),
-            (Stage::Pooled(known), Command::SpmStart(sd)) => {
+        match (self, request) {
+            (Stage::Off, Request::Boot) => Some(Act::Boot),
+            (Stage::Up, Request::MakePool(sd)) => Some(Act::MakePool(*sd)),
+            (Stage::Pooled(known), Request::SpmStart(sd)) => {
                 if sd == known {
                     Some(Act::SpmStart(*known))
                 } else {
                     None
                 }
             }
-            (Stage::Managed(known), Command::Create(image)) => create_in(known, image),
-            (Stage::Created(known), Command::Open(sd, image)) => {
+            (Stage::Managed(known), Request::Create(image)) => create_in(known, image),
+            (Stage::Created(known), Request::Open(sd, image)) => {
                 if known.is_named(sd, image) {
                     Some(Act::Open(*known))
                 } else {
                     None
                 }
             }
-            (Stage::Opened(known), Command::Write(sd, image, at, count)) => {
+            (Stage::Opened(known), Request::Write(sd, image, at)) => {
                 if known.is_named(sd, image) {
-                    Some(Act::Write(*known, *at, *count))
+                    Some(Act::Write(*known, *at))
                 } else {
                     None
                 }
             }
-            (Stage::Opened(known), Command::Read(sd, image, at, count)) => {
+            (Stage::Opened(known), Request::Read(sd, image, at, count)) => {
                 if known.is_named(sd, image) {
                     Some(Act::Read(*known, *at, *count))
                 } else {

@@ -32,6 +32,60 @@ const REPLIES: &str = "\
 9 ok 512*00+512*41
 ";
 
+// A script with lines of each kind that the session refuses, between those that it takes.
+const REFUSED: &str = "\
+2 boot
+1 boot
+1
+1 down
+1 tasks
+1 begin
+1 make-pool 00000000-0000-4000-8000-000000000001 00000000-0000-4000-8000-000000000002 4 -
+1 make-pool 00000000-0000-4000-8000-000000000001 00000000-0000-4000-8000-000000000002 6 -
+1 make-pool 00000000-0000-4000-8000-000000000001 00000000-0000-4000-8000-000000000002 5 store
+01  make-pool 00000000-0000-4000-8000-000000000001 00000000-0000-4000-8000-000000000002 05 -
+1 spm-start 00000000-0000-4000-8000-000000000002 0 1
+1 spm-start 00000000-0000-4000-8000-000000000004 0 0
+1 spm-start 00000000-0000-4000-8000-000000000002 0 0
+1 create 00000000-0000-4000-8000-000000000201 00000000-0000-4000-8000-000000000002 00000000-0000-4000-8000-000000000003 00000000-0000-4000-8000-000000000101 RAW SPARSE 100 -
+1 create 00000000-0000-4000-8000-000000000201 00000000-0000-4000-8000-000000000002 00000000-0000-4000-8000-000000000003 00000000-0000-4000-8000-000000000101 COW SPARSE 512 -
+1 create 00000000-0000-4000-8000-000000000201 00000000-0000-4000-8000-000000000002 00000000-0000-0000-0000-000000000000 00000000-0000-4000-8000-000000000101 RAW SPARSE 512 -
+1 create 00000000-0000-4000-8000-000000000201 00000000-0000-4000-8000-000000000002 00000000-0000-4000-8000-000000000003 00000000-0000-4000-8000-000000000101 RAW SPARSE 512 -
+1 begin open 00000000-0000-4000-8000-000000000002 00000000-0000-4000-8000-000000000003
+1 open 00000000-0000-4000-8000-000000000002 00000000-0000-4000-8000-000000000003
+1 write 00000000-0000-4000-8000-000000000002 00000000-0000-4000-8000-000000000003 0 41
+1 write 00000000-0000-4000-8000-000000000002 00000000-0000-4000-8000-000000000003 0 256*41+254*41+4141
+1 read 00000000-0000-4000-8000-000000000002 00000000-0000-4000-8000-000000000003 0 65537
+1 read 00000000-0000-4000-8000-000000000002 00000000-0000-4000-8000-000000000003 0 512 -
+1 read 00000000-0000-4000-8000-000000000002 00000000-0000-4000-8000-000000000003 0 512";
+
+const REFUSALS: &str = "\
+1 refused 14 NotBuilt
+2 ok
+3 refused 10 BadLine
+4 refused 14 NotBuilt
+5 refused 12 UnknownVerb
+6 refused 12 UnknownVerb
+7 refused 14 NotBuilt
+8 refused 13 BadArgument 3
+9 refused 14 NotBuilt
+10 ok
+11 refused 14 NotBuilt
+12 refused 14 NotBuilt
+13 ok 1
+14 refused 14 NotBuilt
+15 refused 14 NotBuilt
+16 refused 13 BadArgument 3
+17 ok
+18 refused 14 NotBuilt
+19 ok 00000000-0000-4000-8000-000000000101 512
+20 refused 72 Unaligned 0 1
+21 ok
+22 refused 13 BadArgument 4
+23 refused 13 BadArgument 5
+24 ok 512*41
+";
+
 // How the source and the sink of a session are made: at most so many bytes a read, the read and the write that fail,
 // and the sink's room.
 #[derive(Clone, Copy, Debug)]
@@ -75,7 +129,7 @@ fn sound_disk(alloc: Global) -> Result<Memory, Fail> {
 fn scripts_and_their_ends(rt: HostRuntime) -> Result<(), Fail> {
     let alloc = rt.alloc();
     let half = Streams { room: 8, ..SOUND };
-    let table: [(&[&str], &str, Streams, Status, &str); 11] = [
+    let table: [(&[&str], &str, Streams, Status, &str); 12] = [
         (&["session"], SCRIPT, SOUND, Status::Done, REPLIES),
         (
             &["session"],
@@ -84,6 +138,7 @@ fn scripts_and_their_ends(rt: HostRuntime) -> Result<(), Fail> {
             Status::Done,
             REPLIES,
         ),
+        (&["session"], REFUSED, SOUND, Status::Refused, REFUSALS),
         (&["session"], "", SOUND, Status::Done, ""),
         (&["session"], "\n# x\n\n", SOUND, Status::Done, ""),
         (
@@ -98,7 +153,7 @@ fn scripts_and_their_ends(rt: HostRuntime) -> Result<(), Fail> {
             "x\n\n1 boot",
             SOUND,
             Status::Refused,
-            "1 refused 14 NotBuilt\n3 ok\n",
+            "1 refused 10 BadLine\n3 ok\n",
         ),
         (
             &["session"],
@@ -109,7 +164,7 @@ fn scripts_and_their_ends(rt: HostRuntime) -> Result<(), Fail> {
                 ..SOUND
             },
             Status::ReadFault,
-            "1 ok\n2 refused 14 NotBuilt\n",
+            "1 ok\n2 refused 10 BadLine\n",
         ),
         (
             &["session"],
