@@ -7,7 +7,7 @@ use Rattle.std.specs.Str.Parse.{digits_value, without_leading_plus}
 use Rattle.clap.specs.Walk.{Row, is_empty}
 use Rattle.clap.specs.Words.{first_of, all_of, fault_of, subcommand_of}
 use Rattle.clap.specs.ValueTests.{is_unsigned_in}
-use Rattle.script_lines.specs.Number.{number_of}
+use Rattle.decimal_numbers.specs.Number.{number_of}
 use Rattle.command_words.specs.Asked.{Asked, session, run}
 use Rattle.command_words.specs.Shapes.{table}
 

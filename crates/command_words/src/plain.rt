@@ -6,7 +6,7 @@ ghost use Rattle.command_words.specs.Asked.{asked_by, run};
 ghost use Rattle.command_words.specs.Words.{are_lines, is_line, moment_at, moment_before, moment_behind, plain, plain_with};
 
 use crate::Command;
-use script_lines::number;
+use decimal_numbers::number;
 use sd_names::NoMemory;
 use std::alloc::Global;
 

@@ -19,7 +19,8 @@ use Rattle.kv_text.specs.Lookup.{value_of}
 use Rattle.kv_text.specs.Text.{KeyValue, IsWritable, line, pairs, text_of, whole}
 use Rattle.kv_text.proofs.Line.{total, length-text_of}
 use Rattle.kv_text.proofs.ReadBack.{items_open, no_bad_line, all_pairs, empty_not}
-use Rattle.kv_text.proofs.ValuesBack.{number_of-decimal, decimal_short, id_of-id_text, this_id-id_text, description_back}
+use Rattle.decimal_numbers.proofs.NumberLemmas.{number_of-decimal, decimal_short}
+use Rattle.kv_text.proofs.ValuesBack.{id_of-id_text, this_id-id_text, description_back}
 use Rattle.domain_meta.specs.Checksum.{checksum_of, in_order, is_covered}
 use Rattle.kv_text.specs.Keys.{first_missing, shape_fault, value}
 use Rattle.domain_meta.specs.Read.{checked_fields, fields_of, needed_keys, read_domain, with_fault}

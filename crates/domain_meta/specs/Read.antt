@@ -5,7 +5,7 @@ use Rattle.std.specs.Prelude.{ℕ, nat_le, List, [], ◌∷◌, length, Option, 
 use Rattle.std.specs.Str.{bytes_eq}
 use Rattle.kv_text.specs.Ids.{this_id}
 use Rattle.kv_text.specs.Keys.{◌>>=◌, description_of, needed, optional, shape_fault, unless_fault, value}
-use Rattle.kv_text.specs.Number.{number_of}
+use Rattle.decimal_numbers.specs.Number.{number_of}
 use Rattle.kv_text.specs.Text.{KeyValue, pairs}
 use Rattle.kv_text.specs.declared.fault.TextFault.{TextFault}
 use Rattle.kv_text.specs.declared.fault.TextFault.TheVariants as fault

@@ -6,7 +6,7 @@ use Rattle.std.specs.Ordering.{is_lt, nat_cmp}
 use Rattle.std.specs.Result.{result_ok}
 use Rattle.std.specs.Str.{bytes_eq}
 use Rattle.hex.specs.Hex.{decode_sized, encode_lower}
-use Rattle.kv_text.specs.Number.{number_of}
+use Rattle.decimal_numbers.specs.Number.{number_of}
 use Rattle.sd_names.specs.Id.{id_of}
 use Rattle.sd_names.specs.declared.id.Id.{Id}
 use Rattle.sd_names.specs.declared.kinds.Role.{Role}

@@ -2,7 +2,7 @@
 ghost use Rattle.std.specs.Prelude.{◌≡◌, All, IfOk, Some};
 ghost use Rattle.kv_text.specs.Ids.{this_id};
 ghost use Rattle.kv_text.specs.Keys.{value, needed};
-ghost use Rattle.kv_text.specs.Number.{number_of};
+ghost use Rattle.decimal_numbers.specs.Number.{number_of};
 ghost use Rattle.kv_text.specs.Text.{pairs};
 ghost use Rattle.sd_names.specs.Id.{IsIdBytes, id_of};
 ghost use Rattle.sd_names.specs.declared.fault.Key.TheVariants as key;
@@ -12,7 +12,8 @@ ghost use Rattle.domain_meta.specs.Values.{class_of, role_of, master_version_of,
 
 use crate::listed::Listed;
 use crate::values;
-use kv_text::{TextFault, needed, read_number, read_own_id, value};
+use decimal_numbers::number;
+use kv_text::{TextFault, needed, read_own_id, value};
 use sd_names::{Id, Key, Role};
 
 /// The role that ROLE has, if it has one.
@@ -89,7 +90,7 @@ pub fn version(text: &[u8]) -> Result<u64, TextFault>
     ensures { result ≡ needed key.Version number_of (value key.Version (pairs text.now)) }
 {
     let value = needed(text, Key::Version)?;
-    read_number(value).ok_or(TextFault::BadValue(Key::Version))
+    number(value).ok_or(TextFault::BadValue(Key::Version))
 }
 
 pub fn checksum(text: &[u8]) -> Result<[u8; 20], TextFault>

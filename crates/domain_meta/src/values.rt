@@ -7,8 +7,8 @@ ghost use Rattle.domain_meta.specs.Valid.{GoesWith, MayList};
 ghost use Rattle.sd_names.specs.Id.{IsIdBytes};
 
 use crate::listed::{Listed, read_listed};
+use decimal_numbers::number;
 use hex::FromHex;
-use kv_text::read_number;
 use sd_names::Role;
 
 #[tactic(auto, unfolding(crate::specs::Values::class_of))]
@@ -52,7 +52,7 @@ pub fn master_version(role: Option<Role>, value: &[u8]) -> Option<u64>
     ensures value { result ≡ master_version_of role value.now }
     ensures valid { IfSome result (GoesWith role) }
 {
-    let number = read_number(value)?;
+    let number = number(value)?;
     if is_version_of(role, number) {
         Some(number)
     } else {

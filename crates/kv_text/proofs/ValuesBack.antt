@@ -1,9 +1,9 @@
 -- Numbers and identifiers as values: they read as themselves, and have no line feed.
-use Rattle.std.proofs.Common.{◌≡◌, ◌≤◌, ◌⊎◌, inl, inr, ℕ, ◌<◌, ◌^◌, true, false, List, length, get_or, refl, sym, ap, arith, decimal, Some, le-leb, lt-ltb, leb}
+use Rattle.std.proofs.Common.{◌≡◌, ◌≤◌, ◌⊎◌, inl, inr, ℕ, ◌<◌, ◌^◌, true, false, List, length, get_or, refl, sym, ap, arith, decimal, Some, le-leb}
 use Rattle.std.specs.Char.{is_ascii_digit}
 use Rattle.std.specs.Option.{option_map}
 use Rattle.std.proofs.lemmas.Bool.Decides.{nat_tests}
-use Rattle.std.proofs.lemmas.Fmt.{decimal_nonempty, length-decimal-le, digits_decimal, digits_value-decimal}
+use Rattle.std.proofs.lemmas.Fmt.{digits_decimal}
 use Rattle.std.proofs.lemmas.List.Elements.{All-from_get_or}
 use Rattle.std.proofs.lemmas.List.Folds.{list_any_none}
 use Rattle.std.proofs.lemmas.List.Sums.{AllPass-from_list_all}
@@ -13,27 +13,8 @@ use Rattle.sd_names.specs.declared.id.Id.{Id}
 use Rattle.sd_names.proofs.IdLemmas.{id_text-length, id_text-apart, reads_itself, parsed_from_reads}
 use Rattle.kv_text.specs.Ids.{this_id}
 use Rattle.kv_text.specs.Keys.{description_of}
-use Rattle.kv_text.specs.Number.{number_of, is_numeral}
 use Rattle.kv_text.specs.Text.{IsOneLine, is_line_feed}
-use Rattle.kv_text.proofs.NumberLemmas.{own}
-
--- 2 ^ 64 has 20 digits
-twenty : (n : ℕ) → n < 2 ^ 64 → n < 10 ^ 20
-twenty n h = omega arith
-
-pub decimal_short : (n : ℕ) → n < 2 ^ 64 → length (decimal n) ≤ 20
-decimal_short n h = length-decimal-le 20 n (omega arith) (twenty n h) h
-
-pub decimal_is_numeral : (n : ℕ) → n < 2 ^ 64 → is_numeral (decimal n) ≡ true
-decimal_is_numeral n h =
-    let some : leb 1 (length (decimal n)) ≡ true = le-leb 1 (length (decimal n)) (decimal_nonempty n h) in
-    let few : leb (length (decimal n)) 20 ≡ true = le-leb (length (decimal n)) 20 (decimal_short n h) in
-    rw (some, few) (digits_decimal own n h)
-
-pub number_of-decimal : (n : ℕ) → n < 2 ^ 64 → number_of (decimal n) ≡ Some n
-unfolding number_of
-number_of-decimal n h =
-    rw (decimal_is_numeral n h, digits_value-decimal own n h, lt-ltb n (2 ^ 64) h) refl
+use Rattle.decimal_numbers.proofs.NumberLemmas.{own}
 
 -- a digit is no line feed
 digit_stays : (c : ℕ) → is_ascii_digit c ≡ true → is_line_feed c ≡ false

@@ -1,5 +1,5 @@
 -- The keys of a text: what their values mean, and what is wrong where one means nothing.
-use Rattle.std.specs.Prelude.{ℕ, List, [], length, nat_le, Option, Some, None, Result, Ok, Err, if◌then◌else◌, is_none, find}
+use Rattle.std.specs.Prelude.{ℕ, List, length, nat_le, Option, Some, None, Result, Ok, Err, if◌then◌else◌, is_none, find}
 use Rattle.std.specs.Borrow.{Bor}
 use Rattle.sd_names.specs.Key.{key_name}
 use Rattle.sd_names.specs.declared.fault.Key.{Key}

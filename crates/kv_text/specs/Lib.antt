@@ -4,7 +4,6 @@ pub mod Shown
 pub mod Written
 pub mod Next
 pub mod Lookup
-pub mod Number
 pub mod Ids
 pub mod Keys
 pub mod Gives

@@ -73,23 +73,6 @@ fn looks_up(rt: HostRuntime) {
     assert!(rt; first_bad_line(b"EOF\nA").is_none());
 }
 
-#[test]
-fn numbers(rt: HostRuntime) {
-    let cases = [
-        ("0", Some(0)),
-        ("007", Some(7)),
-        ("18446744073709551615", Some(18446744073709551615)),
-        ("18446744073709551616", None),
-        ("000000000000000000001", None),
-        ("", None),
-        ("+1", None),
-        ("1 ", None),
-    ];
-    for (value, want) in cases {
-        assert_eq!(rt; read_number(value.as_bytes()), want);
-    }
-}
-
 // A text's first fault where SIZE and GEN have to be there, its SIZE, and its DESCRIPTION.
 #[test]
 fn keys(rt: HostRuntime) {

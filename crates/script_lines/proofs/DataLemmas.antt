@@ -12,7 +12,7 @@ use Rattle.hex.specs.Hex.{decode_of, decode_sized}
 use Rattle.hex.specs.declared.error.FromHexError.{FromHexError}
 use Rattle.hex.proofs.HexLemmas.{decode_of-ok, decode_sized-twice, decode_sized-odd, decode_of-odd}
 use borrow.Rule.Slice.PartMut.{put_mid}
-use Rattle.script_lines.specs.Number.{number_of}
+use Rattle.decimal_numbers.specs.Number.{number_of}
 use Rattle.script_lines.specs.Data.{is_plus, is_star, byte_of, repeated, digits_of, part_of, appended, parts_of, within_bounds, data_of, DoesNotFit, LaysAt}
 use Rattle.script_lines.proofs.PlacesLemmas.{position_some, position_none}
 

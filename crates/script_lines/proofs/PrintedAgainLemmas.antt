@@ -5,16 +5,15 @@ use Rattle.std.specs.List.{list_all, slice_split, position_or_len, join_with_byt
 use Rattle.std.specs.Char.{is_ascii_digit}
 use Rattle.std.proofs.lemmas.Bool.{and_parts, eqb-true, lt-ltb, le-ltb, le-leb}
 use Rattle.std.proofs.lemmas.Bool.Decides.{nat_tests}
-use Rattle.std.proofs.lemmas.Fmt.{digits_decimal, digits_value-decimal, length-decimal-le, decimal_nonempty}
+use Rattle.std.proofs.lemmas.Fmt.{digits_decimal}
 use Rattle.std.proofs.lemmas.List.{append_assoc, append-nil, take-append-drop, length-replicate, replicate-append-replicate, length-take-le}
 use Rattle.std.proofs.lemmas.List.Elements.{All-head, All-tail, All-nil, All-cons, All-append, All-take, All-drop}
 use Rattle.std.proofs.Math.Seq.{take-append_seam, drop-append-add}
 use Rattle.hex.specs.Hex.{IsBytes, decode_sized, encode_lower, encode_with, lower_digits}
 use Rattle.hex.proofs.HexLemmas.{decode_of-encode_lower, decode_sized-twice, length-encode_with}
-use Rattle.script_lines.specs.Number.{number_of}
 use Rattle.script_lines.specs.Data.{is_plus, is_star, byte_of, digits_of, part_of, parts_of, within_bounds, data_of}
 use Rattle.script_lines.specs.Printed.{sectors, Piece, run, digits, piece_of, joined, pieces_of, piece_text, printed_sectors, printed}
-use Rattle.script_lines.proofs.NumberLemmas.{own}
+use Rattle.decimal_numbers.proofs.NumberLemmas.{own, number_of-decimal}
 use Rattle.script_lines.proofs.IdentifierLemmas.{passes_at}
 use Rattle.script_lines.proofs.DataLemmas.{part_run, part_digits, byte_of-ok}
 use Rattle.script_lines.proofs.JoinedLemmas.{Each, Lacks, lacks, passes_more, split_joined}
@@ -29,14 +28,6 @@ digit_is_figure b e = grind (arith, nat_tests)
 
 pub decimal_figures : (n : ℕ) → n < 2 ^ 64 → list_all is_figure (decimal n) ≡ true
 decimal_figures n h = passes_more is_ascii_digit is_figure digit_is_figure (decimal n) (digits_decimal own n h)
-
-pub number_read : (n : ℕ) → n < 2 ^ 64 → number_of (decimal n) ≡ Some n
-unfolding number_of
-number_read n h =
-    let some : leb 1 (length (decimal n)) ≡ true = le-leb 1 (length (decimal n)) (decimal_nonempty n h) in
-    let short : leb (length (decimal n)) 20 ≡ true = le-leb (length (decimal n)) 20 (length-decimal-le 20 n (omega arith) (omega arith) h) in
-    let test : ltb n (2 ^ 64) ≡ true = lt-ltb n (2 ^ 64) h in
-    rw (some, short, digits_decimal own n h, digits_value-decimal own n h, test) refl
 
 -- hexadecimal digits
 figure_at : (d : ℕ) → d < 16 → is_figure (slice_index lower_digits d) ≡ true
@@ -127,7 +118,7 @@ part_read (run n b) h short =
     let low : leb 1 n ≡ true = le-leb 1 n (omega arith) in
     let high : leb n 65536 ≡ true = le-leb n 65536 small in
     part_run (decimal n ++ 42 ∷ back) (length (decimal n)) found
-    ∙ rw (take-append_seam (decimal n) (42 ∷ back), drop-append-add (decimal n) (42 ∷ back) 1, number_read n (omega arith), byte_read b h.1, low, high) refl
+    ∙ rw (take-append_seam (decimal n) (42 ∷ back), drop-append-add (decimal n) (42 ∷ back) 1, number_of-decimal n (omega arith), byte_read b h.1, low, high) refl
 
 parts_read : (ps : List Piece) → ArePieces ps → length (all_bytes ps) ≤ 65536 → parts_of (map piece_text ps) ≡ Some (all_bytes ps)
 unfolding parts_of

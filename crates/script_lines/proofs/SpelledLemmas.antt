@@ -1,5 +1,5 @@
 -- The words that spell arguments, and what they read as.
-use Rattle.std.proofs.Common.{◌≡◌, ◌≢◌, ℕ, ◌+◌, ◌%◌, ◌<◌, ◌≤◌, ◌^◌, Bool, true, false, if◌then◌else◌, List, [], ◌∷◌, ◌++◌, length, replicate, refl, sym, ◌∙◌, ap, arith, Some, Ok, ltb, leb}
+use Rattle.std.proofs.Common.{◌≡◌, ◌≢◌, ℕ, ◌+◌, ◌<◌, ◌≤◌, ◌^◌, Bool, true, false, if◌then◌else◌, List, [], ◌∷◌, ◌++◌, length, refl, sym, ◌∙◌, ap, arith, Some, Ok, ltb, leb}
 use Rattle.std.specs.Prelude.{All, decimal, codes}
 use Rattle.std.specs.List.{list_all}
 use Rattle.std.specs.Str.{bytes_eq}
@@ -13,7 +13,7 @@ use Rattle.hex.specs.Hex.{encode_lower, lower_digits}
 use Rattle.hex.proofs.HexLemmas.{length-encode_with}
 use Rattle.uuid.specs.Text.{lower, hex_digit, nibble, digit_place, is_hyphen_place}
 use Rattle.uuid.proofs.TextLemmas.{by_index_at, nibble_small}
-use Rattle.sd_names.specs.Id.{IsIdBytes, id_text}
+use Rattle.sd_names.specs.Id.{IsIdBytes, id_text, zero_id}
 use Rattle.sd_names.proofs.IdLemmas.{id_text-length, reads_itself}
 use Rattle.sd_names.specs.declared.kinds.Format.{Format}
 use Rattle.sd_names.specs.declared.kinds.Format.TheVariants.{Raw, Cow}
@@ -24,7 +24,8 @@ use Rattle.script_lines.specs.Spelled.{description_text, format_text, allocation
 use Rattle.script_lines.proofs.ArgumentLemmas.{found}
 use Rattle.script_lines.proofs.IdentifierLemmas.{id_found}
 use Rattle.script_lines.proofs.JoinedLemmas.{Each, Each-append, passes_more, size, size-append}
-use Rattle.script_lines.proofs.PrintedAgainLemmas.{is_figure, decimal_figures, number_read, encoded_figures, encoded_reads}
+use Rattle.decimal_numbers.proofs.NumberLemmas.{number_of-decimal}
+use Rattle.script_lines.proofs.PrintedAgainLemmas.{is_figure, decimal_figures, encoded_figures, encoded_reads}
 
 -- a word of graphic bytes
 abbrev pub IsWord : List ℕ → Type 0
@@ -56,9 +57,9 @@ id_reads bytes is = sym (id_found (id_text bytes) bytes is (reads_itself bytes))
 different : (xs ys : List ℕ) → xs ≢ ys → bytes_eq xs ys ≡ false
 different xs ys other = false_from_ne_true (bytes_eq xs ys) (λ e. other ((bytes_eq-Decides xs ys).0 e))
 
-set_id_reads : (bytes : List ℕ) → IsIdBytes bytes → bytes ≢ replicate 16 0 → set_id_of (id_text bytes) ≡ Some bytes
+set_id_reads : (bytes : List ℕ) → IsIdBytes bytes → bytes ≢ zero_id.0 → set_id_of (id_text bytes) ≡ Some bytes
 unfolding set_id_of
-set_id_reads bytes is other = rw (id_reads bytes is, different bytes (replicate 16 0) other) refl
+set_id_reads bytes is other = rw (id_reads bytes is, different bytes zero_id.0 other) refl
 
 -- numbers
 figure_graphic : (b : ℕ) → is_figure b ≡ true → is_graphic b ≡ true
@@ -72,7 +73,7 @@ number_short n h = length-decimal-le 20 n (omega arith) (omega arith) h
 
 pub number_reads : (low high n : ℕ) → low ≤ n → n ≤ high → n < 2 ^ 64 → number_in low high (decimal n) ≡ Some n
 unfolding number_in
-number_reads low high n above below small = rw (number_read n small, le-leb low n above, le-leb n high below) refl
+number_reads low high n above below small = rw (number_of-decimal n small, le-leb low n above, le-leb n high below) refl
 
 -- descriptions
 description_word : (text : List ℕ) → IsDescription text → IsWord (description_text text)

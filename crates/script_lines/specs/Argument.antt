@@ -1,15 +1,16 @@
 -- The arguments of a verb: what each may be, and its value.
-use Rattle.std.specs.Prelude.{ℕ, ◌+◌, ◌==◌, ◌%◌, Bool, ◌&&◌, not, if◌then◌else◌, List, [], ◌∷◌, length, nat_le, replicate, codes, Option, Some, None, Result, Ok, Err}
+use Rattle.std.specs.Prelude.{ℕ, ◌+◌, Bool, ◌&&◌, not, if◌then◌else◌, List, [], ◌∷◌, length, nat_le, codes, Option, Some, None, Result, Ok, Err}
 use Rattle.std.specs.Option.{option_map, option_and_then}
 use Rattle.std.specs.Str.{bytes_eq}
 use Rattle.uuid.specs.Text.{parsed_hyphenated}
+use Rattle.sd_names.specs.Id.{zero_id}
 use Rattle.sd_names.specs.declared.kinds.Format.{Format}
 use Rattle.sd_names.specs.declared.kinds.Format.TheVariants.{Raw, Cow}
 use Rattle.sd_names.specs.declared.kinds.AllocKind.{AllocKind}
 use Rattle.sd_names.specs.declared.kinds.AllocKind.TheVariants.{Sparse, Preallocated}
 use Rattle.sd_names.specs.declared.refusal.Refusal.{Refusal}
 use Rattle.sd_names.specs.declared.refusal.Refusal.TheVariants.{BadArgument}
-use Rattle.script_lines.specs.Number.{number_of}
+use Rattle.decimal_numbers.specs.Number.{number_of}
 use Rattle.script_lines.specs.Data.{data_of}
 
 -- what an argument may be
@@ -43,7 +44,7 @@ passing test value = if test value then Some value else None
 
 -- an identifier that isn't all zeros
 unfoldable pub set_id_of : List ℕ → Option (List ℕ)
-set_id_of word = option_and_then (passing (λ bytes. not (bytes_eq bytes (replicate 16 0)))) (id_of word)
+set_id_of word = option_and_then (passing (λ bytes. not (bytes_eq bytes zero_id.0))) (id_of word)
 
 -- a number within bounds
 unfoldable pub number_in : ℕ → ℕ → List ℕ → Option ℕ

@@ -4,7 +4,7 @@ use Rattle.std.specs.List.{slice_split, before_first, after_first}
 use Rattle.std.specs.Option.{option_map}
 use Rattle.std.specs.Result.{result_ok}
 use Rattle.hex.specs.Hex.{decode_of, decode_sized}
-use Rattle.script_lines.specs.Number.{number_of}
+use Rattle.decimal_numbers.specs.Number.{number_of}
 
 -- the byte between two parts: `+`
 abbrev pub is_plus : ℕ → Bool

@@ -1,5 +1,4 @@
 pub mod Words
-pub mod Number
 pub mod Data
 pub mod Printed
 pub mod Argument

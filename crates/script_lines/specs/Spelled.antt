@@ -1,8 +1,8 @@
 -- How a script spells an event: its words, with one space between each two.
-use Rattle.std.specs.Prelude.{◌≡◌, ◌≢◌, ℕ, ◌<◌, ◌≤◌, ◌%◌, ◌++◌, Bool, true, ◌&&◌, List, [], ◌∷◌, length, nat_le, replicate, codes, decimal, All}
+use Rattle.std.specs.Prelude.{◌≡◌, ◌≢◌, ℕ, ◌<◌, ◌≤◌, ◌++◌, Bool, true, ◌&&◌, List, [], ◌∷◌, length, nat_le, codes, decimal, All}
 use Rattle.std.specs.List.{list_all, join_with_byte}
 use Rattle.hex.specs.Hex.{encode_lower}
-use Rattle.sd_names.specs.Id.{IsIdBytes, id_text}
+use Rattle.sd_names.specs.Id.{IsIdBytes, id_text, zero_id}
 use Rattle.sd_names.specs.declared.kinds.Format.{Format}
 use Rattle.sd_names.specs.declared.kinds.Format.TheVariants.{Raw, Cow}
 use Rattle.sd_names.specs.declared.kinds.AllocKind.{AllocKind}
@@ -83,7 +83,7 @@ IsLayout _ _ = Unit {0}
 -- a value that an argument may have
 abbrev pub IsValueOf : Kind → Value → Type 0
 IsValueOf identifier (id_value bytes) = IsIdBytes bytes
-IsValueOf set_identifier (id_value bytes) = IsIdBytes bytes × (bytes ≢ replicate 16 0)
+IsValueOf set_identifier (id_value bytes) = IsIdBytes bytes × (bytes ≢ zero_id.0)
 IsValueOf (number low high) (number_value n) = (low ≤ n) × (n ≤ high)
 IsValueOf description (bytes_value text) = IsDescription text
 IsValueOf data_text (bytes_value bytes) = IsData bytes

@@ -2,11 +2,11 @@
 ghost use Rattle.std.specs.Prelude.{◌≡◌, ◌<◌, ◌≤◌, [], ◌∷◌, length, take, IfSome, IfNone, MatchOption};
 ghost use Rattle.std.specs.List.{slice_split};
 ghost use Rattle.std.specs.Option.{option_map_or};
-ghost use Rattle.script_lines.specs.Number.{number_of};
+ghost use Rattle.decimal_numbers.specs.Number.{number_of};
 ghost use Rattle.script_lines.specs.Data.{is_plus, byte_of, repeated, digits_of, part_of, data_of, DoesNotFit, LaysAt};
 
-use crate::number;
 use crate::places::place_of;
+use decimal_numbers::number;
 use hex::decode_to_slice;
 
 /// The most bytes that one piece of data text spells.

@@ -6,14 +6,9 @@ mod data;
 mod event;
 mod laws;
 mod line;
-mod numbers;
 mod places;
 mod printed;
 mod reply;
-#[cfg(test)]
-mod reply_tests;
-#[cfg(test)]
-mod tests;
 mod values;
 mod verb_names;
 mod verbs;
@@ -23,7 +18,6 @@ pub use data::{MAX_DATA, decode};
 pub use event::{Line, event_of};
 pub use laws::{printed_data_reads_again, spelled_events_read_again};
 pub use line::{MAX_LINE, Said, read_line};
-pub use numbers::number;
 pub use printed::push_data;
 pub use reply::{REPLY_ROOM, Reply, push_reply};
 pub use verb_names::{VerbWord, verb_word};

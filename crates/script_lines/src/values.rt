@@ -3,7 +3,7 @@ ghost use Rattle.std.specs.Prelude.{◌≡◌, ◌≤◌, IfSome};
 ghost use Rattle.std.specs.Option.{option_map};
 ghost use Rattle.script_lines.specs.Argument.{layout_value, id_of, set_id_of, number_in, description_of, layout_of};
 
-use crate::number;
+use decimal_numbers::number;
 use sd_names::{AllocKind, Format, Id};
 
 /// An identifier, in either case.

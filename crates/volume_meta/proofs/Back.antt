@@ -21,7 +21,8 @@ use Rattle.kv_text.specs.Lookup.{value_of}
 use Rattle.kv_text.specs.Text.{KeyValue, IsOneLine, IsWritable, pairs, text_of}
 use Rattle.kv_text.proofs.Line.{total, length-text_of}
 use Rattle.kv_text.proofs.ReadBack.{items_closed, eof_closed, no_bad_line, all_pairs}
-use Rattle.kv_text.proofs.ValuesBack.{number_of-decimal, decimal_one_line, decimal_short, id_of-id_text, this_id-id_text, id_one_line, description_back}
+use Rattle.decimal_numbers.proofs.NumberLemmas.{number_of-decimal, decimal_short}
+use Rattle.kv_text.proofs.ValuesBack.{decimal_one_line, id_of-id_text, this_id-id_text, id_one_line, description_back}
 use Rattle.kv_text.specs.Keys.{first_missing, optional, shape_fault, value}
 use Rattle.volume_meta.specs.Read.{fields_of, needed_keys, read_volume, with_fault}
 use Rattle.volume_meta.specs.Text.{cap_line, line_of, merged_line, mtime_line, size_line, first_lines, format_text, kind_text, last_lines, legality_text, volume_text, voltype_text}

@@ -4,7 +4,7 @@
 use Rattle.std.specs.Prelude.{ℕ, Bool, true, false, ◌==◌, nat_le, List, [], ◌∷◌, length, Option, Some, None, Result, Ok, Err, if◌then◌else◌, codes}
 use Rattle.kv_text.specs.Ids.{this_id}
 use Rattle.kv_text.specs.Keys.{◌>>=◌, description_of, needed, optional, shape_fault, unless_fault, value}
-use Rattle.kv_text.specs.Number.{number_of}
+use Rattle.decimal_numbers.specs.Number.{number_of}
 use Rattle.kv_text.specs.Text.{KeyValue, pairs, has_eof}
 use Rattle.kv_text.specs.declared.fault.TextFault.{TextFault}
 use Rattle.kv_text.specs.declared.fault.TextFault.TheVariants as fault

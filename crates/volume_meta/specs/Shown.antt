@@ -1,5 +1,5 @@
 -- The values of a text as the code reads them, as lists and numbers.
-use Rattle.std.specs.Prelude.{ℕ, Option, Some, None, Result, Ok, Err}
+use Rattle.std.specs.Prelude.{Result, Ok, Err}
 use Rattle.volume_meta.specs.declared.reading.Fields.{Fields}
 use Rattle.volume_meta.specs.declared.record.VolumeRecord.{VolumeRecord}
 

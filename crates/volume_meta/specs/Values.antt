@@ -9,7 +9,7 @@ use Rattle.sd_names.specs.declared.kinds.Legality.{Legality}
 use Rattle.sd_names.specs.declared.kinds.Legality.TheVariants.{Legal, Illegal}
 use Rattle.sd_names.specs.declared.kinds.VolType.{VolType}
 use Rattle.sd_names.specs.declared.kinds.VolType.TheVariants.{Leaf, Internal}
-use Rattle.kv_text.specs.Number.{number_of}
+use Rattle.decimal_numbers.specs.Number.{number_of}
 
 -- CAP: bytes, a multiple of 512, 512 to 1 TiB
 unfoldable pub capacity_of : List ℕ → Option ℕ

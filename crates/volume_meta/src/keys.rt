@@ -2,7 +2,7 @@
 ghost use Rattle.std.specs.Prelude.{◌≡◌, ◌≤◌, length, IfOk, IfSome, codes, false};
 ghost use Rattle.kv_text.specs.Ids.{this_id};
 ghost use Rattle.kv_text.specs.Keys.{value, needed, meant, optional, bytes_of};
-ghost use Rattle.kv_text.specs.Number.{number_of};
+ghost use Rattle.decimal_numbers.specs.Number.{number_of};
 ghost use Rattle.kv_text.specs.Text.{IsOneLine, pairs};
 ghost use Rattle.sd_names.specs.Id.{IsIdBytes, id_of};
 ghost use Rattle.sd_names.specs.declared.fault.Key.TheVariants as key;
@@ -11,7 +11,8 @@ ghost use Rattle.volume_meta.specs.Valid.{IsCapacity, MayBeMerged};
 ghost use Rattle.volume_meta.specs.Values.{capacity_of, size_of, generation_of, disk_type_of, format_of, legality_of, kind_of, voltype_of, merged_of};
 
 use crate::values;
-use kv_text::{TextFault, needed, read_number, read_own_id, value};
+use decimal_numbers::number;
+use kv_text::{TextFault, needed, read_own_id, value};
 use sd_names::{AllocKind, Format, Id, Key, Legality, VolType};
 
 /// CAP, which version 5 has and no other.
@@ -46,7 +47,7 @@ pub fn ctime(text: &[u8]) -> Result<u64, TextFault>
     ensures { result ≡ optional key.Ctime 0 number_of (value key.Ctime (pairs text.now)) }
 {
     match value(text, Key::Ctime) {
-        Some(value) => read_number(value).ok_or(TextFault::BadValue(Key::Ctime)),
+        Some(value) => number(value).ok_or(TextFault::BadValue(Key::Ctime)),
         None => Ok(0),
     }
 }

@@ -4,7 +4,7 @@ ghost use Rattle.std.specs.Option.{option_map};
 ghost use Rattle.volume_meta.specs.Values.{capacity_of, size_of, generation_of, disk_type_of, format_of, legality_of, kind_of, voltype_of, merged_of};
 ghost use Rattle.volume_meta.specs.Valid.{IsCapacity, MayBeMerged};
 
-use kv_text::read_number;
+use decimal_numbers::number;
 use sd_names::{AllocKind, Format, Legality, VolType};
 
 // The most bytes of a capacity, 1 TiB.
@@ -18,7 +18,7 @@ pub fn capacity(value: &[u8]) -> Option<u64>
     ensures value { result ≡ capacity_of value.now }
     ensures valid { IfSome result IsCapacity }
 {
-    let bytes = read_number(value)?;
+    let bytes = number(value)?;
     if bytes % 512 == 0 && bytes >= 512 && bytes <= MOST_CAPACITY {
         Some(bytes)
     } else {
@@ -31,7 +31,7 @@ pub fn size(value: &[u8]) -> Option<u64>
     ensures value { result ≡ size_of value.now }
     ensures valid { IfSome result IsCapacity }
 {
-    let blocks = read_number(value)?;
+    let blocks = number(value)?;
     if blocks >= 1 && blocks <= MOST_BLOCKS {
         Some(blocks * 512)
     } else {
@@ -44,7 +44,7 @@ pub fn generation(value: &[u8]) -> Option<u16>
     ensures value { result ≡ generation_of value.now }
     ensures valid { IfSome result (λ n. n ≤ 999) }
 {
-    let number = read_number(value)?;
+    let number = number(value)?;
     if number <= 999 {
         Some(number as u16)
     } else {

@@ -1,4 +1,4 @@
-use Rattle.std.proofs.Common.{◌≡◌, ◌≤◌, ◌<◌, ◌+◌, ◌*◌, ◌++◌, ◌∷◌, [], ◌∙◌, ℕ, List, true, false, ap, sym, arith, length, length-set, map, take, Bor}
+use Rattle.std.proofs.Common.{◌≡◌, ◌<◌, ◌++◌, ◌∙◌, ℕ, List, true, false, ap, sym, arith, length, length-set, map, take, Bor}
 use Rattle.std.proofs.lemmas.List.{take_more_set}
 use Rattle.kv_text.specs.Text.{is_eof, lines}
 use Rattle.domain_meta.specs.Checksum.{covered_of, is_covered}

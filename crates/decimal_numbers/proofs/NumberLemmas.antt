@@ -1,5 +1,5 @@
--- A number, as std's `parse` reads it.
-use Rattle.std.proofs.Common.{◌≡◌, ℕ, ◌<◌, ◌^◌, Bool, true, false, ◌&&◌, List, length, refl, ap, arith, rules, Some, None, Result, Ok, Err, ltb, leb}
+-- A number, as std's `parse` reads it, and as `decimal` writes it.
+use Rattle.std.proofs.Common.{◌≡◌, ℕ, ◌<◌, ◌≤◌, ◌^◌, Bool, true, false, ◌&&◌, List, length, refl, ap, arith, rules, decimal, Some, None, Result, Ok, Err, ltb, leb, le-leb, lt-ltb}
 use Rattle.std.specs.List.{list_all}
 use Rattle.std.specs.Char.{is_ascii_digit}
 use Rattle.std.specs.Result.{result_ok, OkIff}
@@ -7,9 +7,9 @@ use Rattle.std.specs.Str.{IsUtf8}
 use Rattle.std.specs.Str.Parse.{digits_value, ParsesUnsigned}
 use Rattle.std.proofs.lemmas.Str.{IsUtf8-from_ascii}
 use Rattle.std.proofs.lemmas.Str.Parse.{IsNumeralModel, numerals_by_value, parse_digits}
-use Rattle.std.proofs.lemmas.Fmt.{IsAscii-from_digits}
+use Rattle.std.proofs.lemmas.Fmt.{IsAscii-from_digits, decimal_nonempty, length-decimal-le, digits_decimal, digits_value-decimal}
 use Rattle.std.proofs.lemmas.Bool.{and_parts, leb-true, ltb-true, ltb-false}
-use Rattle.script_lines.specs.Number.{is_numeral, number_of}
+use Rattle.decimal_numbers.specs.Number.{is_numeral, number_of}
 
 pub own : IsNumeralModel (λ ds. list_all is_ascii_digit ds ≡ true) (digits_value 10)
 own = numerals_by_value _ (search rules)
@@ -42,3 +42,22 @@ number_parsed bs r h e =
 pub number_none : (bs : List ℕ) → is_numeral bs ≡ false → None ≡ number_of bs
 unfolding number_of
 number_none bs e = rw e refl
+
+-- 2 ^ 64 has 20 digits
+twenty : (n : ℕ) → n < 2 ^ 64 → n < 10 ^ 20
+twenty n h = omega arith
+
+pub decimal_short : (n : ℕ) → n < 2 ^ 64 → length (decimal n) ≤ 20
+decimal_short n h = length-decimal-le 20 n (omega arith) (twenty n h) h
+
+decimal_is_numeral : (n : ℕ) → n < 2 ^ 64 → is_numeral (decimal n) ≡ true
+decimal_is_numeral n h =
+    let some : leb 1 (length (decimal n)) ≡ true = le-leb 1 (length (decimal n)) (decimal_nonempty n h) in
+    let few : leb (length (decimal n)) 20 ≡ true = le-leb (length (decimal n)) 20 (decimal_short n h) in
+    rw (some, few) (digits_decimal own n h)
+
+-- a number reads as itself
+pub number_of-decimal : (n : ℕ) → n < 2 ^ 64 → number_of (decimal n) ≡ Some n
+unfolding number_of
+number_of-decimal n h =
+    rw (decimal_is_numeral n h, digits_value-decimal own n h, lt-ltb n (2 ^ 64) h) refl

@@ -1,10 +1,10 @@
--- Numbers in texts.
+-- Decimal numbers.
 use Rattle.std.specs.Prelude.{ℕ, ◌^◌, Bool, ◌&&◌, if◌then◌else◌, List, length, nat_lt, nat_le, Option, Some, None}
 use Rattle.std.specs.Char.{is_ascii_digit}
 use Rattle.std.specs.List.{list_all}
 use Rattle.std.specs.Str.Parse.{digits_value}
 
--- whether a value has 1 to 20 bytes, each a decimal digit
+-- whether a word has 1 to 20 bytes, each a decimal digit
 abbrev pub is_numeral : List ℕ → Bool
 is_numeral word = nat_le 1 (length word) && nat_le (length word) 20 && list_all is_ascii_digit word
 

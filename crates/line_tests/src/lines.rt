@@ -1,5 +1,5 @@
 // Tables of what the parts of a line say, and of printed data.
-use crate::{Line, MAX_DATA, VerbWord, decode, event_of, number, push_data, take_word};
+use script_lines::{Line, MAX_DATA, VerbWord, decode, event_of, push_data, take_word};
 use sd_names::Refusal;
 use std::alloc::{AllocError, Global};
 use std::test::Fail;
@@ -19,25 +19,7 @@ fn words(rt: HostRuntime) {
     }
 }
 
-#[test]
-fn numbers(rt: HostRuntime) {
-    let cases: [(&[u8], Option<u64>); 10] = [
-        (b"0", Some(0)),
-        (b"007", Some(7)),
-        (b"18446744073709551615", Some(18446744073709551615)),
-        (b"18446744073709551616", None),
-        (b"00000000000000000001", Some(1)),
-        (b"000000000000000000001", None),
-        (b"", None),
-        (b"-1", None),
-        (b"+1", None),
-        (b"1x", None),
-    ];
-    for (word, value) in cases {
-        assert_eq!(rt; number(word), value);
-    }
-}
-
+/// What a word decodes to, if it is data text.
 fn decoded(alloc: Global, word: &[u8]) -> Result<Option<Vec<u8>>, AllocError> {
     let mut into = vec![in alloc; 0; MAX_DATA]?;
     match decode(word, &mut into) {
@@ -46,54 +28,40 @@ fn decoded(alloc: Global, word: &[u8]) -> Result<Option<Vec<u8>>, AllocError> {
     }
 }
 
+// Data text, how many bytes it spells, and the first of them; none for a word that isn't data text.
 #[test]
 fn data_text(rt: HostRuntime) -> Result<(), Fail> {
-    let cases: [(&[u8], &[u8]); 5] = [
-        (b"00", &[0]),
-        (b"aBCd", &[171, 205]),
-        (b"3*Ff", &[255, 255, 255]),
-        (b"1*00+2*41+4243", &[0, 65, 65, 66, 67]),
-        (b"003*01", &[1, 1, 1]),
+    let cases: [(&[u8], usize, &[u8]); 25] = [
+        (b"00", 1, &[0]),
+        (b"aBCd", 2, &[171, 205]),
+        (b"3*Ff", 3, &[255, 255, 255]),
+        (b"1*00+2*41+4243", 5, &[0, 65, 65, 66, 67]),
+        (b"003*01", 3, &[1, 1, 1]),
+        (b"65536*41", 65536, b"AAAA"),
+        (b"65535*41+42", 65536, b"AAAA"),
+        (b"65536*41+42", 0, b""),
+        (b"42+65536*41", 0, b""),
+        (b"32768*41+32768*42+00", 0, b""),
+        (b"", 0, b""),
+        (b"+", 0, b""),
+        (b"4", 0, b""),
+        (b"414", 0, b""),
+        (b"4g", 0, b""),
+        (b"0*41", 0, b""),
+        (b"65537*41", 0, b""),
+        (b"1*4", 0, b""),
+        (b"1*414", 0, b""),
+        (b"1*4*1", 0, b""),
+        (b"*41", 0, b""),
+        (b"1*", 0, b""),
+        (b"41+", 0, b""),
+        (b"+41", 0, b""),
+        (b"41++41", 0, b""),
     ];
-    for (word, bytes) in cases {
-        let read = decoded(rt.alloc(), word)?.ok_or("no data")?;
-        assert_eq!(rt; read.as_slice(), bytes);
-    }
-    let refused: [&[u8]; 15] = [
-        b"",
-        b"+",
-        b"4",
-        b"414",
-        b"4g",
-        b"0*41",
-        b"65537*41",
-        b"1*4",
-        b"1*414",
-        b"1*4*1",
-        b"*41",
-        b"1*",
-        b"41+",
-        b"+41",
-        b"41++41",
-    ];
-    for word in refused {
-        assert!(rt; decoded(rt.alloc(), word)?.is_none());
-    }
-    Ok(())
-}
-
-#[test]
-fn data_lengths(rt: HostRuntime) -> Result<(), Fail> {
-    let cases: [(&[u8], Option<usize>); 5] = [
-        (b"65536*41", Some(65536)),
-        (b"65535*41+42", Some(65536)),
-        (b"65536*41+42", None),
-        (b"42+65536*41", None),
-        (b"32768*41+32768*42+00", None),
-    ];
-    for (word, count) in cases {
-        let mut into = vec![in rt.alloc(); 0; MAX_DATA]?;
-        assert_eq!(rt; decode(word, &mut into), count);
+    for (word, count, front) in cases {
+        let bytes = decoded(rt.alloc(), word)?.unwrap_or(Vec::new(rt.alloc()));
+        assert_eq!(rt; bytes.len(), count);
+        assert!(rt; bytes.starts_with(front));
     }
     Ok(())
 }
