@@ -1,7 +1,8 @@
 pub mod Causes
 pub mod Limits
+pub mod Cells
 pub mod Contents
-pub mod Copies
+pub mod Leaving
 pub mod Folders
 pub mod Listed
 pub mod Placing

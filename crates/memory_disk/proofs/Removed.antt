@@ -1,5 +1,5 @@
 -- What is left of a store when a file is taken away.
-use Rattle.std.proofs.Common.{◌≡◌, ◌≢◌, ℕ, ◌<◌, ◌≤◌, ◌==◌, Bool, true, false, not, if◌then◌else◌, List, [], ◌∷◌, reverse, Option, Some, None, unwrap_or, eq-eqb, eqb-true, refl, sym, ap, subst, ◌∙◌}
+use Rattle.std.proofs.Common.{◌≡◌, ◌≢◌, ℕ, ◌<◌, ◌≤◌, ◌==◌, Bool, true, false, not, List, [], ◌∷◌, reverse, Option, Some, None, unwrap_or, eq-eqb, eqb-true, refl, sym, ap, subst, ◌∙◌}
 use Rattle.std.specs.List.{Contains, filter}
 use Rattle.std.proofs.lemmas.Option.{none-some, same_Some}
 use Rattle.std.proofs.lemmas.Bool.{false≢true}
@@ -44,16 +44,17 @@ pub outside_other : (n m : ℕ) (log : List Write) → m ≢ n → loose_of m (o
 outside_other n m log apart = ap (λ ws. loose_in m ws) (sym (filter-reverse (λ v. not (v.file == n)) log)) ∙ other_in n m (reverse log) apart
 
 -- what is left lies within its files
-stable_step : (number n k : ℕ) (slots slots1 : List (Option FileEntry)) (stable : Sectors) (o : Option (List ℕ)) (b : Bool) → (number == n) ≡ b → IsSlotPut number None slots slots1 → IsStableWithin slots stable
-    → slot_size (slot n slots1) ≤ k → o ≡ (if b then None else sector_at stable 0 n k) → o ≡ None
-stable_step number n k slots slots1 stable o true t put within past is = is
-stable_step number n k slots slots1 stable o false t put within past is =
-    let same : slot n slots1 ≡ slot n slots = put_other number n None slots slots1 put (λ e. false≢true (sym t ∙ eq-eqb number n (sym e))) in
-    is ∙ within n k (rw (← same) past)
+stable_step : (number n k : ℕ) (slots slots1 : List (Option FileEntry)) (stable stable1 : Sectors) (b : Bool) → (number == n) ≡ b → IsSlotPut number None slots slots1 → IsStableWithin slots stable
+    → slot_size (slot n slots1) ≤ k → ((j : ℕ) → sector_at stable1 0 number j ≡ None) → ((m j : ℕ) → m ≢ number → sector_at stable1 0 m j ≡ sector_at stable 0 m j) → sector_at stable1 0 n k ≡ None
+stable_step number n k slots slots1 stable stable1 true t put within past gone others = ap (λ (m : ℕ). sector_at stable1 0 m k) (sym (eqb-true number n t)) ∙ gone k
+stable_step number n k slots slots1 stable stable1 false t put within past gone others =
+    let apart : n ≢ number = λ e. false≢true (sym t ∙ eq-eqb number n (sym e)) in
+    let same : slot n slots1 ≡ slot n slots = put_other number n None slots slots1 put apart in
+    others n k apart ∙ within n k (rw (← same) past)
 
 pub stable_left : (number : ℕ) (slots slots1 : List (Option FileEntry)) (stable stable1 : Sectors) → IsSlotPut number None slots slots1 → IsStableWithin slots stable
-    → ((n k : ℕ) → sector_at stable1 0 n k ≡ (if number == n then None else sector_at stable 0 n k)) → IsStableWithin slots1 stable1
-stable_left number slots slots1 stable stable1 put within at = λ n k past. stable_step number n k slots slots1 stable (sector_at stable1 0 n k) (number == n) refl put within past (at n k)
+    → ((k : ℕ) → sector_at stable1 0 number k ≡ None) → ((n k : ℕ) → n ≢ number → sector_at stable1 0 n k ≡ sector_at stable 0 n k) → IsStableWithin slots1 stable1
+stable_left number slots slots1 stable stable1 put within gone others = λ n k past. stable_step number n k slots slots1 stable stable1 (number == n) refl put within past gone others
 
 log_step : (number n : ℕ) (slots slots1 : List (Option FileEntry)) (log : List Write) (l : Loose) (b : Bool) → (number == n) ≡ b → IsSlotPut number None slots slots1 → IsLogWithin slots log
     → Contains (loose_of n (outside_of number log)) l → l.sector < slot_size (slot n slots1)

@@ -15,7 +15,7 @@ use Rattle.memory_disk.specs.Files.{entry_synced}
 use Rattle.memory_disk.specs.Sectors.{sector_at}
 use Rattle.memory_disk.specs.Settled.{IsPicked, IsSettling}
 use Rattle.memory_disk.specs.Store.{AreApart, AreHoused, IsLogWithin, IsStableWithin, content_of, file_of, found, has_dir, loose_in, loose_of, not_by, slot, slot_size}
-use Rattle.memory_disk.proofs.Copies.{key_parts}
+use Rattle.memory_disk.proofs.Cells.{key_parts}
 use Rattle.shared_disk.proofs.Outcomes.{own_among}
 use Rattle.memory_disk.proofs.Slots.{found_at, found_gone, found_none, found_slot, slot_map, slot_mapped}
 use Rattle.memory_disk.proofs.Synced.{filter-reverse}

@@ -9,7 +9,8 @@ use Rattle.memory_disk.specs.declared.entry.FileEntry.{FileEntry}
 use Rattle.memory_disk.specs.declared.entry.Write.{Write}
 use Rattle.memory_disk.specs.declared.sector_map.Sectors.{Sectors}
 use Rattle.shared_disk.specs.Content.{Loose, own_of}
-use Rattle.memory_disk.specs.Sectors.{key_eq, sector_at}
+use Rattle.memory_disk.specs.Sectors.{sector_at}
+use Rattle.memory_disk.specs.Cells.{key_eq}
 use Rattle.memory_disk.specs.Store.{AreHoused, IsLogWithin, IsSlotPut, IsStableWithin, has_dir, loose_in, loose_of, or_else, slot, slot_size}
 use Rattle.memory_disk.proofs.Contents.{loose_push}
 use Rattle.shared_disk.proofs.Outcomes.{contains_here, contains_more, cons_cases, own_among, no_writes}
@@ -135,6 +136,9 @@ last_step w ws h n j true true false x y z = rw (x, y, z, x) refl
 last_step w ws h n j true false t x y z = rw (x, y) refl
 last_step w ws h n j false true t x y z = rw (x, y, x) refl
 last_step w ws h n j false false t x y z = rw (x, y) refl
+
+pub own_newest : (w : Write) (ws : List Write) (h n j : ℕ) → own_of h j (loose_in n (w ∷ ws)) ≡ (if key_eq (w.host, w.file, w.sector) (h, n, j) then Some w.bytes else own_of h j (loose_in n ws))
+own_newest w ws h n j = sym (last_step w ws h n j (w.host == h) (w.file == n) (w.sector == j) refl refl refl)
 
 pub own_more : (log log1 : List Write) (w : Write) (h n j : ℕ) → log1 ≡ log ++ w ∷ []
     → (if key_eq (w.host, w.file, w.sector) (h, n, j) then Some w.bytes else own_of h j (loose_of n log)) ≡ own_of h j (loose_of n log1)

@@ -1,4 +1,6 @@
+pub mod Cells
 pub mod Store
+pub mod Leaving
 pub mod Files
 pub mod Sectors
 pub mod Listing

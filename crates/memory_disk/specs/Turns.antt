@@ -1,5 +1,5 @@
 -- Picks that are taken in turn.
-use Rattle.std.specs.Prelude.{◌≡◌, ℕ, zero, suc, List, [], ◌++◌, take, drop}
+use Rattle.std.specs.Prelude.{◌≡◌, ℕ, zero, suc, List, ◌++◌, take, drop}
 use Rattle.memory_disk.specs.declared.picks.Pick.{Pick}
 use Rattle.memory_disk.specs.declared.picks.Picks.{Picks}
 

@@ -1,6 +1,7 @@
 //! Shared folders in memory: disks that keep to the trait of a shared disk, with room for a fixed count of units.
 #![tactic(auto)]
 
+mod cell;
 mod counts;
 mod entry;
 mod failing;

@@ -9,7 +9,7 @@ ghost use Rattle.memory_disk.specs.Store.{AreHoused, IsLogWithin, IsStableWithin
 
 use crate::entry::{FileEntry, Write};
 use crate::files::{Files, synced_entry};
-use crate::log::{forget, index, settle};
+use crate::log::{Leaving, forget, settle};
 use crate::sector_map::{MEDIUM, Sectors};
 use sd_names::{Dir, HostId, Place};
 use shared_disk::DiskAnswer;
@@ -52,7 +52,7 @@ pub(crate) struct Store {
     ghost own_room: { room ≤ kept_room own },
     ghost used: { vec_len dirs + files.count + kept_count stable + vec_len log ≤ room },
     ghost own_fits: { kept_count own ≤ vec_len log },
-    ghost own_is: { (h n k : ℕ) → 0 < h → sector_at own h n k ≡ own_of h k (loose_of n log.items) } by { Prim.hlevel props },
+    ghost own_is: { (h n k : ℕ) → sector_at own h n k ≡ own_of h k (loose_of n log.items) } by { Prim.hlevel props },
     ghost stable_within: { IsStableWithin files.slots.items stable } by { Prim.hlevel props },
     ghost log_within: { IsLogWithin files.slots.items log.items } by { Prim.hlevel props },
     ghost housed: { AreHoused dirs.items files.slots.items } by { Prim.hlevel props },
@@ -294,9 +294,8 @@ impl Store {
         ensures room { self.new.room ≡ self.old.room }
     {
         settle(&self.log, &mut self.stable, host, number);
-        forget(&mut self.log, host, number);
-        self.own.clear();
-        index(&self.log, &mut self.own);
+        let leaving = Leaving::ByHostInFile(host, number);
+        forget(&mut self.log, &mut self.own, leaving);
     }
 
     pub(crate) fn sync(&mut self, host: HostId, place: Place) -> Result<(), DiskAnswer>

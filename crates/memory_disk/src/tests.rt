@@ -1,15 +1,13 @@
 // What no clause says: the memory disk's answers one after the other, its picks, its room and its speed.
-use crate::{Memory, Pick};
 use sd_names::{Dir, HostId, Id, Name, Place};
-use shared_disk::DiskAnswer::{Exists, Failed, NoFile, NotEmpty, OutOfFile};
 use shared_disk::{DiskAnswer, Exchanged, SharedDisk};
-use std::test::Fail;
 
 mod down;
 mod honest;
 mod medium;
 mod names;
 mod room;
+mod scripts;
 
 // A call: its sectors are numbered from the file's start.
 #[derive(Clone, Copy, Debug)]
@@ -41,7 +39,11 @@ enum Call {
     // The last byte of a sector, or 255 where the read leaves it.
     Byte(Name, u8),
     Sync(Name),
+    Down,
 }
+
+// A call, the host that makes it, and its answer.
+type Row = (u64, Call, Result<u64, DiskAnswer>);
 
 fn place(name: Name) -> Place {
     Place {
@@ -142,82 +144,27 @@ fn made<D: SharedDisk>(disk: &mut D, host: HostId, call: Call) -> Result<u64, Di
         Call::Count(name, sector) => return count(disk, host, name, sector),
         Call::Byte(name, sector) => return read(disk, host, name, sector),
         Call::Sync(name) => disk.sync(host, place(name))?,
+        Call::Down => disk.down(host),
     }
     Ok(0)
 }
 
-const TEXT: Name = Name::Metadata;
-
-const NONE: Name = Name::Leases;
-
-#[test]
-fn each_answer_of_each_call(rt: HostRuntime) -> Result<(), Fail> {
-    let alloc = rt.alloc();
-    let mut disk = Memory::new(alloc, Vec::new(alloc), Vec::new(alloc), 10)?;
-    let table = [
-        (1, Call::MakeTexts, Err(NoFile)),
-        (1, Call::MakeDomain, Ok(0)),
-        (1, Call::MakeDomain, Err(Exists)),
-        (1, Call::Create(TEXT, 2), Err(NoFile)),
-        (1, Call::MakeTexts, Ok(0)),
-        (1, Call::Create(TEXT, 2), Ok(0)),
-        (2, Call::Create(TEXT, 1), Err(Exists)),
-        (2, Call::Length(TEXT), Ok(1024)),
-        (2, Call::Length(NONE), Err(NoFile)),
-        (1, Call::Write(TEXT, 1, 7), Ok(0)),
-        (1, Call::WriteTwo(TEXT, 1), Err(OutOfFile)),
-        (1, Call::Write(NONE, 0, 7), Err(NoFile)),
-        (1, Call::Count(NONE, 0), Err(NoFile)),
-        (1, Call::Count(TEXT, 0), Ok(1024)),
-        (1, Call::Count(TEXT, 2), Ok(0)),
-        (1, Call::Byte(TEXT, 0), Ok(0)),
-        (1, Call::Byte(TEXT, 1), Ok(7)),
-        (1, Call::Byte(TEXT, 2), Ok(255)),
-        (2, Call::Sync(TEXT), Ok(0)),
-        (2, Call::Byte(TEXT, 1), Ok(0)),
-        (1, Call::Sync(TEXT), Ok(0)),
-        (2, Call::Byte(TEXT, 1), Ok(7)),
-        (2, Call::Sync(NONE), Err(NoFile)),
-    ];
-    for (number, call, answer) in table {
-        let host = HostId::new(number).ok_or("a host")?;
-        assert_eq!(rt; made(&mut disk, host, call), answer, "{call:?}");
+// Makes the calls one after the other, and gives the number of the first that is answered otherwise.
+fn first_wrong<D: SharedDisk>(disk: &mut D, rows: &[Row]) -> Option<usize> {
+    for (i, (number, call, answer)) in rows.iter().enumerate() {
+        let right = match HostId::new(*number) {
+            Some(host) => made(disk, host, *call) == *answer,
+            None => false,
+        };
+        if !right {
+            return Some(i);
+        }
     }
-    assert_eq!(rt; disk.fault_count(), 0);
-    Ok(())
+    None
 }
+
+const TEXT: Name = Name::Metadata;
 
 const NEW: Name = Name::MetadataNew;
 
-#[test]
-fn each_answer_of_each_call_on_names(rt: HostRuntime) -> Result<(), Fail> {
-    let alloc = rt.alloc();
-    let mut disk = Memory::new(alloc, Vec::new(alloc), Vec::new(alloc), 12)?;
-    let table = [
-        (1, Call::MakeDomain, Ok(0)),
-        (1, Call::MakeTexts, Ok(0)),
-        (1, Call::Grow(TEXT, 2), Err(NoFile)),
-        (1, Call::Rename, Err(NoFile)),
-        (1, Call::Remove(TEXT), Err(NoFile)),
-        (1, Call::Exchange(TEXT, 0, 0, 7), Err(NoFile)),
-        (1, Call::Create(TEXT, 1), Ok(0)),
-        (1, Call::Exchange(TEXT, 1, 0, 7), Err(OutOfFile)),
-        // A host's own write is what it expects; another's is not.
-        (1, Call::Write(TEXT, 0, 5), Ok(0)),
-        (1, Call::Exchange(TEXT, 0, 0, 7), Ok(5)),
-        (2, Call::Exchange(TEXT, 0, 5, 7), Ok(0)),
-        (1, Call::Exchange(TEXT, 0, 5, 7), Ok(1000)),
-        (2, Call::Byte(TEXT, 0), Ok(7)),
-        // A longer file ends in zeros; no call makes it shorter.
-        (2, Call::Grow(TEXT, 3), Ok(0)),
-        (1, Call::Byte(TEXT, 2), Ok(0)),
-        (2, Call::Grow(TEXT, 1), Ok(0)),
-        (1, Call::Length(TEXT), Ok(1536)),
-    ];
-    for (number, call, answer) in table {
-        let host = HostId::new(number).ok_or("a host")?;
-        assert_eq!(rt; made(&mut disk, host, call), answer, "{call:?}");
-    }
-    assert_eq!(rt; disk.fault_count(), 0);
-    Ok(())
-}
+const NONE: Name = Name::Leases;

@@ -12,7 +12,7 @@ ghost use Rattle.memory_disk.specs.Store.{IsLogWithin, loose_of, not_by, slot, s
 use super::Store;
 use crate::entry::Write;
 use crate::files::Files;
-use crate::log::{forget_host, index};
+use crate::log::{Leaving, forget};
 use crate::picks::{Pick, Picks, filled, picked};
 use crate::sector_map::{MEDIUM, Sectors};
 use sd_names::HostId;
@@ -178,10 +178,8 @@ impl Store {
             host,
             picks,
         );
-        forget_host(&mut self.log, host);
+        forget(&mut self.log, &mut self.own, Leaving::ByHost(host));
         self.files.sync(host);
-        self.own.clear();
-        index(&self.log, &mut self.own);
     }
 
     pub(crate) fn down(&mut self, host: HostId, picks: &mut Picks)

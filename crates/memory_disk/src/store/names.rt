@@ -8,10 +8,9 @@ ghost use Rattle.memory_disk.specs.Store.{IsCleared, IsSlotPut, found, loose_of,
 use super::{Store, is_dir};
 use crate::entry::FileEntry;
 use crate::listing::{forget_dir, least_dir, least_name, move_one};
-use crate::log::{forget_file, index};
+use crate::log::{Leaving, forget};
 use sd_names::{Dir, Name, Place};
 use shared_disk::DiskAnswer;
-use std::mem;
 
 impl Store {
     ghost use Rattle.memory_disk.specs.Held.{held, units};
@@ -26,13 +25,10 @@ impl Store {
         ensures units { units self.new < units self.old }
         ensures room { self.new.room ≡ self.old.room }
     {
+        let size = self.files.size(number);
         self.files.take(number);
-        self.own.clear();
-        self.stable.copy_others(number, &mut self.own);
-        mem::swap(&mut self.stable, &mut self.own);
-        forget_file(&mut self.log, number);
-        self.own.clear();
-        index(&self.log, &mut self.own);
+        self.stable.take_file(number, size);
+        forget(&mut self.log, &mut self.own, Leaving::InFile(number));
     }
 
     // Takes away the file at a place, if there is one.

@@ -8,7 +8,7 @@ ghost use Rattle.shared_disk.specs.declared.disk.Exchanged.TheVariants.{Found};
 
 use super::Store;
 use crate::entry::FileEntry;
-use crate::log::{forget_sector, index, is_waiting};
+use crate::log::{Leaving, forget, is_waiting};
 use crate::sector_map::MEDIUM;
 use sd_names::{HostId, Place};
 use shared_disk::{DiskAnswer, Exchanged};
@@ -75,10 +75,8 @@ impl Store {
         ensures units { units self.new ≤ units self.old + 1 }
         ensures room { self.new.room ≡ self.old.room }
     {
-        forget_sector(&mut self.log, number, k);
+        forget(&mut self.log, &mut self.own, Leaving::OfSector(number, k));
         self.stable.put(MEDIUM, number, k, bytes);
-        self.own.clear();
-        index(&self.log, &mut self.own);
     }
 
     pub(crate) fn exchange(

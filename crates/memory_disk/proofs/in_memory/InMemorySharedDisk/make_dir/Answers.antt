@@ -1,6 +1,8 @@
 use Rattle.std.proofs.Common.{◌≡◌, ◌+◌, ◌-◌, ◌^◌, min, ◌∙◌, ap, arith, sym}
 use Rattle.std.proofs.lemmas.Bool.{false≢true}
 use Rattle.shared_disk.specs.Limits.{adds}
+use Rattle.shared_disk.proofs.WellFormedFolders.{make_dir_keeps}
+use Rattle.memory_disk.specs.Held.{held}
 use Rattle.memory_disk.proofs.Causes.{cause_counted, cause_exact}
 use Rattle.memory_disk.proofs.Limits.{keeps, keeps_listed}
 use Rattle.memory_disk.proofs.in_memory.InMemorySharedDisk.make_dir.Goals as goal
@@ -23,3 +25,6 @@ returns-clause-limits o c =
     keeps (adds 1) _ _ _ _ _ c.args.self.now.store c.fails.new.self.store c.make_dir-answer.new.self c.make_dir-answer.result c.fails.ensures.failing c.fails.ensures.store (λ w. false≢true (sym c.if-fails.false ∙ c.fails.ensures.listed.1 w))
     (record { failed = λ e. c.count.ensures.failed e ∙ ap (λ n. min (n + 1) (2 ^ 64 - 1)) same; other = λ h. c.count.ensures.other h ∙ same })
     (record { room = c.make_dir-answer.ensures.room; uses = c.make_dir-answer.ensures.units; kept = c.make_dir-answer.ensures.kept; failed = c.make_dir-answer.ensures.failed })
+
+pub invariant_of-self-clause-well_formed : goal.invariant_of-self-clause-well_formed
+invariant_of-self-clause-well_formed o c = make_dir_keeps (held c.fails.new.self.store) (held c.make_dir-answer.new.self) c.args.dir c.make_dir-answer.result c.fails.new.self.well_formed c.make_dir-answer.ensures.call

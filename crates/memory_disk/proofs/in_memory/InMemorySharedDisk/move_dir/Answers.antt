@@ -1,4 +1,4 @@
-use Rattle.std.proofs.Common.{arith, ap, sym, ◌∙◌, ◌≡◌}
+use Rattle.std.proofs.Common.{arith, sym, ◌∙◌, ◌≡◌}
 use Rattle.std.proofs.lemmas.Bool.{false≢true}
 use Rattle.shared_disk.specs.Limits.{adds}
 use Rattle.memory_disk.proofs.Causes.{cause_counted, cause_none}

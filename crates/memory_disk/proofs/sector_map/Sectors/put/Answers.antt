@@ -1,23 +1,14 @@
--- What is kept at each sector, from what the map says of the key that was written.
-use Rattle.std.proofs.Common.{◌≡◌, ◌<◌, Some, Ok, Err, Option, Result, OnOk, IsOk, arith, refl, subst}
-use Rattle.std.specs.HashMap.{spare}
-use Rattle.std.specs.Option.{IsSome}
+use Rattle.std.proofs.Common.{◌<◌, length, length-set, set, arith}
+use Rattle.std.specs.HashMap.{get}
+use Rattle.memory_disk.specs.Cells.{key_eq}
+use Rattle.memory_disk.specs.declared.cell.Cell.{Cell}
+use Rattle.memory_disk.proofs.Cells.{indexed_replaced, set_here, set_others}
 use Rattle.memory_disk.proofs.sector_map.Sectors.put.Goals as goal
 
-ok_gives : {T E P : Type 0} (r : Result T E) → IsOk r → OnOk r P → P
-ok_gives (Ok x) ok p = p
-ok_gives (Err e) ok p = absurd (cc)
-
-is_some_of : {T : Type 0} (x : Option T) (v : T) → Some v ≡ x → IsSome x
-is_some_of {T} x v e = subst (λ (o : Option T). IsSome o) e refl
-
-pub returns-in-Some-clause-at : goal.returns-in-Some-clause-at
-returns-in-Some-clause-at c = λ o f k.
-    ((c.get_mut.follows.holds c.args.bytes.now).3 (is_some_of _ c.in-Some.held.now c.in-Some.ensures.value)).0 (o, f, k)
-
-pub returns-clause-at : goal.returns-clause-at
-returns-clause-at c = λ o f k.
-    let same : c.get_mut.follows.lender-at-none ≡ c.args.self.now.map = c.get_mut.follows.holds-at-none in
-    let room : 0 < spare c.args.self.now.map = omega (arith, c.requires) in
-    let done = ok_gives c.insert.result (c.insert.ensures.succeeds (rw same room)) c.insert.ensures.updates in
-    rw (← same) (done.0 (o, f, k))
+pub invariant_of-self-clause-indexed : goal.invariant_of-self-clause-indexed
+invariant_of-self-clause-indexed c =
+    let cells = c.args.self.now.cells.items in
+    let i = c.in-Some.number in
+    let cell : Cell = record { key = (c.args.owner, c.args.file, c.args.sector); bytes = c.args.bytes.now } in
+    let within : i < length cells = omega (arith, c.in-Some.ensures.there, c.args.self.now.cells.ok.0) in
+    indexed_replaced cells (set cells i cell) (get key_eq c.args.self.now.index) i cell.key cell.bytes c.args.self.now.indexed c.in-Some.ensures.key (length-set cells i cell) (set_here cells i cell within) (set_others cells i cell)

@@ -5,7 +5,7 @@ use Rattle.memory_disk.proofs.Placing.{same_housed, same_log_within, same_within
 use Rattle.memory_disk.proofs.store.Store.add_room.Goals as goal
 
 pub invariant_of-self-clause-own_is : goal.invariant_of-self-clause-own_is
-invariant_of-self-clause-own_is c = λ h n k up. c.reserve_units-answer.ensures.own h n k ∙ c.args.self.now.own_is h n k up ∙ ap (λ ws. own_of h k (loose_of n ws)) (sym c.reserve_units-answer.ensures.log)
+invariant_of-self-clause-own_is c = λ h n k. c.reserve_units-answer.ensures.own h n k ∙ c.args.self.now.own_is h n k ∙ ap (λ ws. own_of h k (loose_of n ws)) (sym c.reserve_units-answer.ensures.log)
 
 pub invariant_of-self-clause-stable_within : goal.invariant_of-self-clause-stable_within
 invariant_of-self-clause-stable_within c =

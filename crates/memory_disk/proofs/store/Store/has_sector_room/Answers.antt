@@ -1,7 +1,7 @@
 use Rattle.std.proofs.Common.{◌≡◌, true, not, is_some, ap, sym, ◌∙◌, refl, arith}
 use Rattle.memory_disk.specs.Sectors.{sector_at}
 use Rattle.memory_disk.specs.Store.{is_at}
-use Rattle.memory_disk.proofs.Copies.{at_most_one}
+use Rattle.memory_disk.proofs.Cells.{at_most_one}
 use Rattle.memory_disk.proofs.Within.{filter_no_more}
 use Rattle.memory_disk.proofs.store.Store.has_sector_room.Goals as goal
 use Rattle.memory_disk.proofs.store.Store.has_sector_room.Goals.{then-has_room, else-has_room}

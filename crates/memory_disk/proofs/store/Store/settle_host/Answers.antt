@@ -1,7 +1,6 @@
-use Rattle.std.proofs.Common.{◌≡◌, ◌==◌, List, not, length, ap, sym, subst, ◌∙◌, arith}
-use Rattle.shared_disk.specs.Content.{own_of}
+use Rattle.std.proofs.Common.{◌≡◌, ◌==◌, List, not, length, ap, sym, subst, arith}
 use Rattle.memory_disk.specs.Settled.{IsSettling}
-use Rattle.memory_disk.specs.Store.{IsLogWithin, loose_of, not_by}
+use Rattle.memory_disk.specs.Store.{IsLogWithin, not_by}
 use Rattle.memory_disk.specs.declared.entry.Write.{Write}
 use Rattle.memory_disk.proofs.Settling.{settling_within, synced_housed, synced_wider}
 use Rattle.memory_disk.proofs.Within.{log_part, log_wider, stable_wider}
@@ -14,9 +13,6 @@ pub returns-clause-at : goal.returns-clause-at
 returns-clause-at c =
     subst (λ (ws : List Write). IsSettling c.args.host c.args.self.now.files.slots.items ws c.args.self.now.stable c.settle_writes.new.stable) c.deref.ensures.value c.settle_writes.ensures.at
 
-pub invariant_of-self-clause-own_is : goal.invariant_of-self-clause-own_is
-invariant_of-self-clause-own_is c = λ h n k _. c.index.ensures.at h n k ∙ ap (λ ws. own_of h k (loose_of n ws)) c.deref-2.ensures.value
-
 pub invariant_of-self-clause-stable_within : goal.invariant_of-self-clause-stable_within
 invariant_of-self-clause-stable_within c =
     stable_wider c.args.self.now.files.slots.items c.sync.new.self.slots.items c.settle_writes.new.stable (synced_wider c.args.host c.args.self.now.files.slots.items c.sync.new.self.slots.items c.sync.ensures.slots)
@@ -24,15 +20,15 @@ invariant_of-self-clause-stable_within c =
 
 pub invariant_of-self-clause-log_within : goal.invariant_of-self-clause-log_within
 invariant_of-self-clause-log_within c =
-    log_wider c.args.self.now.files.slots.items c.sync.new.self.slots.items c.forget_host.new.log.items (synced_wider c.args.host c.args.self.now.files.slots.items c.sync.new.self.slots.items c.sync.ensures.slots)
-    (log_part (λ w. not (w.host == c.args.host)) c.args.self.now.files.slots.items c.args.self.now.log.items c.forget_host.new.log.items c.forget_host.ensures.items c.args.self.now.log_within)
+    log_wider c.args.self.now.files.slots.items c.sync.new.self.slots.items c.forget.new.log.items (synced_wider c.args.host c.args.self.now.files.slots.items c.sync.new.self.slots.items c.sync.ensures.slots)
+    (log_part (λ w. not (w.host == c.args.host)) c.args.self.now.files.slots.items c.args.self.now.log.items c.forget.new.log.items c.forget.ensures.items c.args.self.now.log_within)
 
 pub invariant_of-self-clause-housed : goal.invariant_of-self-clause-housed
 invariant_of-self-clause-housed c = synced_housed c.args.host c.args.self.now.dirs.items c.args.self.now.files.slots.items c.sync.new.self.slots.items c.sync.ensures.slots c.args.self.now.housed
 
 pub invariant_of-self-clause-used : goal.invariant_of-self-clause-used
 invariant_of-self-clause-used c =
-    let left : length c.forget_host.new.log.items ≡ length (not_by c.args.host c.args.self.now.log.items) = ap length c.forget_host.ensures.items in
+    let left : length c.forget.new.log.items ≡ length (not_by c.args.host c.args.self.now.log.items) = ap length c.forget.ensures.items in
     let same : length (not_by c.args.host c.deref.result.now) ≡ length (not_by c.args.host c.args.self.now.log.items) = ap (λ ws. length (not_by c.args.host ws)) c.deref.ensures.value in
     let all : length c.deref.result.now ≡ length c.args.self.now.log.items = ap length c.deref.ensures.value in
     omega (arith, left, same, all, c.settle_writes.ensures.count, c.sync.ensures.count, c.args.self.now.used)
