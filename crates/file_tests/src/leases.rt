@@ -397,6 +397,47 @@ fn take_found(scanned: Scanned, host: HostId, up: &UpSet, disk: &mut Memory) -> 
     }
 }
 
+// Puts sectors, scans, and gives what the scan found and in how many steps. Two hosts then take what it found: their
+// refusals' numbers, 0 where there is none.
+fn scanned(
+    alloc: Global,
+    host: HostId,
+    two: HostId,
+    up: &UpSet,
+    puts: &[(u16, Short)],
+) -> Result<Option<(Scanned, u8, u16, u16)>, NoMemory> {
+    let mut disk = make_leases(alloc, host, u64::MAX)?;
+    for (slot, short) in puts {
+        if put(&mut disk, host, *slot, *short).is_err() {
+            return Ok(None);
+        }
+    }
+    match scan(&mut disk, host) {
+        Some((found, steps)) => {
+            let first = take_found(found, host, up, &mut disk);
+            let second = take_found(found, two, up, &mut disk);
+            Ok(Some((found, steps, first, second)))
+        }
+        None => Ok(None),
+    }
+}
+
+// What is put, which sector is found, which empty one, and the refusals of two hosts that take what was found.
+const SCANS: [(&[(u16, Short)], Option<u16>, Option<u16>, u16, u16); 4] = [
+    (&[], None, Some(1), 50, 50),
+    (&[(0, FREE)], None, Some(1), 50, 50),
+    (&[(1, OTHERS), (1023, FREE)], Some(1023), Some(2), 0, 52),
+    (
+        &[(1, OTHERS), (2, OTHERS), (300, FREE), (200, FREE)],
+        Some(200),
+        Some(3),
+        0,
+        52,
+    ),
+];
+
+const OTHERS: Short = Short::Free(4, OTHER);
+
 #[test]
 fn scans_find_the_least(rt: HostRuntime) -> Result<(), Fail> {
     let host = HostId::new(1).ok_or("1")?;
@@ -404,30 +445,12 @@ fn scans_find_the_least(rt: HostRuntime) -> Result<(), Fail> {
     let mut up = UpSet::new();
     up.add(host);
     up.add(two);
-    let named = Short::Free(4, IMAGE);
-    let other = Short::Free(4, OTHER);
-    for (puts, found, empty) in [
-        (&[][..], None, Some(1)),
-        (&[(0, named)][..], None, Some(1)),
-        (&[(1, other), (1023, named)][..], Some(1023), Some(2)),
-        (
-            &[(1, other), (2, other), (300, named), (200, named)][..],
-            Some(200),
-            Some(3),
-        ),
-    ] {
-        let mut disk = make_leases(rt.alloc(), host, u64::MAX)?;
-        for (slot, short) in puts {
-            put(&mut disk, host, *slot, *short)?;
-        }
-        let (scanned, steps) = scan(&mut disk, host).ok_or("no scan")?;
-        assert!(rt; steps == 8);
-        assert!(rt; scanned.found.map(|(slot, _)| slot) == found);
-        assert!(rt; scanned.empty == empty);
-        // Two hosts take what they read: the first one has it.
-        let first = take_found(scanned, host, &up, &mut disk);
-        let second = take_found(scanned, two, &up, &mut disk);
-        assert!(rt; (first, second) == if found.is_some() { (0, 52) } else { (50, 50) });
+    for (puts, found, empty, first, second) in SCANS {
+        let (scan, steps, one, other) = scanned(rt.alloc(), host, two, &up, puts)?.ok_or(
+            "no scan",
+        )?;
+        assert_eq!(rt; scan.found.map(|(slot, _)| slot), found);
+        assert_eq!(rt; (scan.empty, steps, one, other), (empty, 8, first, second));
     }
     let mut disk = Memory::new(rt.alloc(), Vec::new(rt.alloc()), Vec::new(rt.alloc()), 10)?;
     assert!(rt; scan(&mut disk, host).is_none());

@@ -1,8 +1,9 @@
 // What no clause says: whole reads and writes over a disk in memory, one after the other, and a disk that fails.
 use memory_disk::Memory;
 use raw_layer::{Raw, RawRead, RawWrite};
-use sd_names::{Dir, HostId, Id, Name, Place, Refusal, Turn};
+use sd_names::{Dir, HostId, Id, Name, NoMemory, Place, Refusal, Turn};
 use shared_disk::{DiskAnswer, SharedDisk};
+use std::alloc::Global;
 use std::test::Fail;
 
 // A call of two sectors, from a sector of the volume on.
@@ -95,55 +96,79 @@ fn made(disk: &mut Memory, place: Place, call: Call) -> Option<Answer> {
     }
 }
 
+// Calls and their answers, one after the other.
+const ROWS: [(Place, Call, Answer); 12] = [
+    (FILE, Call::Read(0), Answer::Bytes(0, 0)),
+    (FILE, Call::Write(4, 0, 7), Answer::Written(2)),
+    (FILE, Call::Write(0, 2, 8), Answer::Written(3)),
+    (FILE, Call::Read(0), Answer::Bytes(7, 7)),
+    (FILE, Call::Read(1), Answer::Bytes(7, 8)),
+    (FILE, Call::Write(4, 3, 9), Answer::NoRoom(2048, 2560)),
+    (FILE, Call::Write(0, 3, 9), Answer::NoRoom(2048, 2560)),
+    (FILE, Call::Read(3), Answer::Bytes(8, 0)),
+    (FILE, Call::Read(4), Answer::Bytes(0, 0)),
+    (FILE, Call::Read(200), Answer::Bytes(0, 0)),
+    (ABSENT, Call::Read(0), Answer::Refused(122)),
+    (ABSENT, Call::Write(0, 0, 7), Answer::Refused(122)),
+];
+
+// The number of the first call that is answered otherwise.
+fn first_wrong(disk: &mut Memory) -> Option<usize> {
+    for (i, (place, call, want)) in ROWS.iter().enumerate() {
+        if made(disk, *place, *call) != Some(*want) {
+            return Some(i);
+        }
+    }
+    None
+}
+
 #[test]
 fn what_is_written_is_read_and_zeros_past_the_end(rt: HostRuntime) -> Result<(), Fail> {
     let alloc = rt.alloc();
     let mut disk = Memory::new(alloc, Vec::new(alloc), Vec::new(alloc), 20)?;
     let host = HostId::new(1).ok_or("a host")?;
     assert_eq!(rt; make_file(&mut disk, host), Ok(()));
-    let table = [
-        (FILE, Call::Read(0), Answer::Bytes(0, 0)),
-        (FILE, Call::Write(4, 0, 7), Answer::Written(2)),
-        (FILE, Call::Write(0, 2, 8), Answer::Written(3)),
-        (FILE, Call::Read(0), Answer::Bytes(7, 7)),
-        (FILE, Call::Read(1), Answer::Bytes(7, 8)),
-        (FILE, Call::Write(4, 3, 9), Answer::NoRoom(2048, 2560)),
-        (FILE, Call::Write(0, 3, 9), Answer::NoRoom(2048, 2560)),
-        (FILE, Call::Read(3), Answer::Bytes(8, 0)),
-        (FILE, Call::Read(4), Answer::Bytes(0, 0)),
-        (FILE, Call::Read(200), Answer::Bytes(0, 0)),
-        (ABSENT, Call::Read(0), Answer::Refused(122)),
-        (ABSENT, Call::Write(0, 0, 7), Answer::Refused(122)),
-    ];
-    for (place, call, want) in table {
-        assert_eq!(rt; made(&mut disk, place, call), Some(want), "{call:?}");
-    }
+    assert_eq!(rt; first_wrong(&mut disk), None);
     assert_eq!(rt; Raw::new(FILE, 8192, 0).capacity(), 8192);
     Ok(())
+}
+
+const WRITE: Call = Call::Write(0, 0, 7);
+
+// The number of the call that fails, what is done, and its answer when it is done again.
+const FAULTS: [(u64, Call, Answer); 4] = [
+    (5, WRITE, Answer::Written(3)),
+    (6, WRITE, Answer::Written(3)),
+    (7, WRITE, Answer::Written(3)),
+    (5, Call::Read(0), Answer::Bytes(0, 0)),
+];
+
+// What is done on a disk with a file of which that call fails, twice.
+fn made_twice(
+    alloc: Global,
+    host: HostId,
+    failing: u64,
+    call: Call,
+) -> Result<[Option<Answer>; 2], NoMemory> {
+    let mut list = Vec::new(alloc);
+    if list.push(failing).is_err() {
+        return Err(NoMemory);
+    }
+    let mut disk = Memory::new(alloc, Vec::new(alloc), list, 20)?;
+    if make_file(&mut disk, host).is_err() {
+        return Ok([None, None]);
+    }
+    let first = made(&mut disk, FILE, call);
+    Ok([first, made(&mut disk, FILE, call)])
 }
 
 // The disk fails at the length, at the write, at the sync, and at a read; the same call is made again.
 #[test]
 fn a_fault_of_each_call(rt: HostRuntime) -> Result<(), Fail> {
-    let alloc = rt.alloc();
     let host = HostId::new(1).ok_or("a host")?;
-    let write = Call::Write(0, 0, 7);
-    let table = [
-        (5, write, Answer::Written(3)),
-        (6, write, Answer::Written(3)),
-        (7, write, Answer::Written(3)),
-        (5, Call::Read(0), Answer::Bytes(0, 0)),
-    ];
-    for (failing, call, then) in table {
-        let failing = [failing].to_vec(alloc)?;
-        let mut disk = Memory::new(alloc, Vec::new(alloc), failing, 20)?;
-        assert_eq!(rt; make_file(&mut disk, host), Ok(()));
-        assert_eq!(rt;
-            made(&mut disk, FILE, call),
-            Some(Answer::Fault(1)),
-            "{call:?}"
-        );
-        assert_eq!(rt; made(&mut disk, FILE, call), Some(then), "{call:?}");
+    for (failing, call, then) in FAULTS {
+        let answers = made_twice(rt.alloc(), host, failing, call)?;
+        assert_eq!(rt; answers, [Some(Answer::Fault(1)), Some(then)], "{call:?}");
     }
     Ok(())
 }

@@ -1,8 +1,9 @@
 // What no clause says: whole replacements over a disk in memory, and a disk that fails and a host that goes down at each
 // of their calls.
 use memory_disk::{Memory, Pick};
-use sd_names::{Dir, HostId, Id, Name, Place, Refusal, Turn};
+use sd_names::{Dir, HostId, Id, Name, NoMemory, Place, Refusal, Turn};
 use shared_disk::{DiskAnswer, SharedDisk};
+use std::alloc::Global;
 use std::test::Fail;
 use whole_file::{LONGEST, ROOM, Replace, Text, read_text};
 
@@ -60,6 +61,16 @@ fn reads(disk: &mut Memory, host: HostId, text: &[u8]) -> bool {
     }
 }
 
+// Texts, and in how many steps each replaces the one before it.
+const TEXTS: [(&[u8], u8); 4] = [(OLD, 5), (NEW, 5), (&[], 4), (&[b'x'; LONGEST], 5)];
+
+// Whether a text replaces what is there in so many steps, is read, and leaves nothing under the volatile name.
+fn is_put(disk: &mut Memory, host: HostId, text: &[u8], steps: u8) -> bool {
+    replace(disk, host, text) == End::Done(steps)
+        && reads(disk, host, text)
+        && disk.length(host, VOLATILE) == Err(DiskAnswer::NoFile)
+}
+
 #[test]
 fn a_text_is_replaced_and_read(rt: HostRuntime) -> Result<(), Fail> {
     let host = HostId::new(1).ok_or("no host")?;
@@ -75,15 +86,12 @@ fn a_text_is_replaced_and_read(rt: HostRuntime) -> Result<(), Fail> {
     // What an earlier attempt left.
     disk.create(host, VOLATILE, 1024)?;
     disk.write_at(host, VOLATILE, 0, &[7; 1024])?;
-    let longest = [b'x'; LONGEST];
-    for (text, steps) in [(OLD, 5), (NEW, 5), (&[][..], 4), (&longest[..], 5)] {
+    for (text, steps) in TEXTS {
         assert!(rt;
-            replace(&mut disk, host, text) == End::Done(steps),
+            is_put(&mut disk, host, text, steps),
             "{} bytes",
             text.len()
         );
-        assert!(rt; reads(&mut disk, host, text), "{} bytes", text.len());
-        assert!(rt; disk.length(host, VOLATILE) == Err(DiskAnswer::NoFile));
     }
     Ok(())
 }
@@ -112,33 +120,47 @@ fn long_texts_are_told(rt: HostRuntime) -> Result<(), Fail> {
     Ok(())
 }
 
+// How a replacement ends on a disk that settles by the pick and fails in one of its five calls, or in none; and whether,
+// once the host went down, the text stands that the end says, and a second replacement puts the new one there.
+fn crash(
+    alloc: Global,
+    host: HostId,
+    other: HostId,
+    pick: Pick,
+    failing: u64,
+) -> Result<(End, bool), NoMemory> {
+    let mut picks = Vec::new(alloc);
+    let mut list = Vec::new(alloc);
+    // Two calls make the folders, five the old text, and then come those of the new one.
+    if picks.push(pick).is_err() || failing < 5 && list.push(7 + failing).is_err() {
+        return Err(NoMemory);
+    }
+    let mut disk = Memory::new(alloc, picks, list, 100)?;
+    let begun = make_folders(&mut disk, host).is_ok()
+        && replace(&mut disk, host, OLD) == End::Done(5);
+    let end = replace(&mut disk, host, NEW);
+    disk.down(host);
+    let stands = reads(&mut disk, other, if failing < 5 { OLD } else { NEW });
+    let again = replace(&mut disk, other, NEW) == End::Done(5) && reads(&mut disk, other, NEW);
+    Ok((end, begun && stands && again))
+}
+
 #[test]
 fn the_target_is_old_or_new_at_each_crash(rt: HostRuntime) -> Result<(), Fail> {
     let host = HostId::new(1).ok_or("no host")?;
     let other = HostId::new(2).ok_or("no host")?;
     for pick in [Pick::Old, Pick::New, Pick::Byte(0x55)] {
-        // Two calls make the folders, five the old text, and each of the next five fails in its turn; at last none.
         for failing in 0..6 {
-            let mut picks = Vec::new(rt.alloc());
-            picks.push(pick)?;
-            let mut list = Vec::new(rt.alloc());
-            let (end, left) = if failing < 5 {
-                list.push(7 + failing)?;
-                (End::Refused(failing as u8 + 1, 120), OLD)
+            let end = if failing < 5 {
+                End::Refused(failing as u8 + 1, 120)
             } else {
-                (End::Done(5), NEW)
+                End::Done(5)
             };
-            let mut disk = Memory::new(rt.alloc(), picks, list, 100)?;
-            make_folders(&mut disk, host)?;
-            assert!(rt; replace(&mut disk, host, OLD) == End::Done(5));
-            assert!(rt; replace(&mut disk, host, NEW) == end, "call {failing}");
-            disk.down(host);
-            assert!(rt; reads(&mut disk, other, left), "{pick:?} at call {failing}");
-            assert!(rt;
-                replace(&mut disk, other, NEW) == End::Done(5),
-                "again after {failing}"
+            assert_eq!(rt;
+                crash(rt.alloc(), host, other, pick, failing)?,
+                (end, true),
+                "{pick:?} at call {failing}"
             );
-            assert!(rt; reads(&mut disk, other, NEW));
         }
     }
     Ok(())
