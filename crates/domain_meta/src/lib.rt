@@ -14,6 +14,3 @@ pub use laws::{domain_text_is_short, domain_text_reads_back};
 pub use reading::read;
 pub use record::DomainRecord;
 pub use writing::write_into;
-
-#[cfg(test)]
-mod tests;

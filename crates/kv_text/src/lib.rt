@@ -20,6 +20,3 @@ pub use lookup::{first_bad_line, has_eof, value_of};
 pub use pair::Pair;
 pub use split::{first_line, split_once};
 pub use writer::KvWriter;
-
-#[cfg(test)]
-mod tests;

@@ -12,6 +12,3 @@ pub use laws::{volume_text_is_short, volume_text_reads_back};
 pub use reading::read;
 pub use record::{VolumeRecord, next_generation};
 pub use writing::write_into;
-
-#[cfg(test)]
-mod tests;

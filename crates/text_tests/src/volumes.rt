@@ -1,6 +1,7 @@
-use super::*;
+// The texts of a volume.
 use sd_names::Id;
 use std::alloc::{AllocError, Global};
+use volume_meta::{next_generation, read, write_into};
 
 const SD: Id = Id([0, 0, 0, 0, 0, 0, 0x40, 0, 0x80, 0, 0, 0, 0, 0, 0, 2]);
 

@@ -1,4 +1,8 @@
-use super::*;
+// Pairs of keys and values, read, looked up and written.
+use kv_text::{
+    KvWriter, Lines, TextFault, description, first_bad_line, first_line, has_eof, needed,
+    read_own_id, shape_fault, split_once, value_of,
+};
 use sd_names::{Id, Key};
 use std::alloc::{AllocError, Global};
 
