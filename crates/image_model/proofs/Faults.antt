@@ -72,7 +72,7 @@ before_or_here t capacity n place b nowhere other = go (cases_lt b.0 n)
     go (inr le) = let same : b.0 ≡ n = omega (arith, b.1) in other (rw same at b.2)
 
 -- a place was named before a position, or wasn't
-named_before : (t : Tables) (capacity n place : ℕ) → NamedBefore t capacity n place ⊎ (NamedBefore t capacity n place → ⊥)
+pub named_before : (t : Tables) (capacity n place : ℕ) → NamedBefore t capacity n place ⊎ (NamedBefore t capacity n place → ⊥)
 named_before t capacity zero place = inr (λ b. omega (arith, b.1))
 named_before t capacity (suc n) place = go (named_before t capacity n place) (is_named (names t capacity n) place)
   where

@@ -3,4 +3,7 @@
 
 mod layer;
 
-pub use layer::{named_clusters_are_used, one_first_fault, one_wanted_length, sound_without_fault};
+pub use layer::{
+    longer_files_say_the_same, named_clusters_are_used, one_first_fault, one_wanted_length,
+    sound_without_fault,
+};
