@@ -127,7 +127,7 @@ fn open_layer(
     host: HostId,
     capacity: u64,
 ) -> Result<Layer, Refusal> {
-    let mut work = Opening::begin(alloc, VOLUME, FILE, capacity)?;
+    let mut work = Opening::begin(alloc, VOLUME, FILE, capacity, capacity)?;
     for _ in 0..10_000 {
         match work.step(host, disk) {
             Turn::More(next) => work = next,

@@ -1,26 +1,31 @@
--- Entries of the tables as items.
-use Rattle.std.proofs.Common.{◌≡◌, ◌≢◌, ℕ, ◌*◌, ◌/◌, ◌%◌, ◌<◌, Bool, not, None, Ok, refl, sym, ap, ◌∙◌, arith, eq-eqb, ne_eqb}
-use Rattle.std.specs.Prelude.{◌==◌, if◌then◌else◌}
-use Rattle.sd_names.specs.declared.fault.LayerFault.TheVariants.{MixedBits}
-use Rattle.image_model.specs.Layer.{Tables, block_at, block_word}
-use Rattle.qcow_format.specs.declared.entry.Entry.TheVariants.{Zero}
-use Rattle.image_model.specs.Soundness.{Item, nothing, placed, faulty, block_item, beyond, l2_item_of}
+-- Where an entry of the L1 table stands, and the word that a sector has.
+use Rattle.std.proofs.Common.{◌≡◌, ℕ, ◌+◌, ◌-◌, ◌*◌, ◌/◌, ◌%◌, ◌^◌, ◌<◌, ◌≤◌, List, sym, ap, ◌∙◌, arith}
+use Rattle.std.proofs.lemmas.Nat.{pow_pos}
+use Rattle.qcow_format.specs.Bytes.{number}
+use Rattle.image_model.specs.File.{file_of, sector_in}
+use Rattle.image_model.specs.Layer.{Tables, cluster_size, l1_at, l1_clusters}
+use Rattle.image_model.specs.Soundness.{IsClean, Item, item}
+use Rattle.layer_walk.proofs.Admit.{inside}
+use Rattle.layer_walk.proofs.Places.{item_l1_cluster}
+use Rattle.layer_walk.proofs.Sizes.{last_end, rounded, some_row}
 
-abbrev shape : Tables → ℕ → ℕ → Item
-shape t at w = if not (w % 512 == 0) then faulty at (MixedBits at) else (if w / 512 * 512 == 0 then nothing else placed t at (w / 512 * 512))
+pub l1_low : (t : Tables) (capacity i : ℕ) → ((k : ℕ) → k < l1_clusters t → IsClean t capacity (1 + k)) → t.header.cluster_bits ≤ 21
+    → t.header.l1_table_offset % cluster_size t ≡ 0 → t.file.size < 2 ^ 64 → i < t.header.l1_size → l1_at t i + 8 ≤ 2 ^ 64
+l1_low t capacity i known small even fits lt =
+    let full : 8 * t.header.l1_size ≤ l1_clusters t * cluster_size t = rounded (8 * t.header.l1_size) (cluster_size t) (pow_pos t.header.cluster_bits) in
+    let some : 0 < l1_clusters t = some_row (8 * t.header.l1_size) (l1_clusters t) (cluster_size t) i full (omega (arith, lt)) in
+    let k : ℕ = l1_clusters t - 1 in
+    let clean = known k (omega (arith, some)) in
+    let is = item_l1_cluster t capacity k (omega (arith, some)) in
+    let within : t.header.l1_table_offset + k * cluster_size t < t.file.size = inside t.file.size (item t capacity (1 + k)) _ clean.fine (ap (λ (x : Item). x.name) is) in
+    let end = last_end t.header.cluster_bits t.header.l1_table_offset (l1_clusters t) 64 some even (omega (arith, small)) (omega (arith, within, fits)) in
+    omega (arith, end, full, lt)
 
-shape_placed : (t : Tables) (at w : ℕ) → w % 512 ≡ 0 → 0 < w → shape t at w ≡ placed t at w
-shape_placed t at w even some =
-    let e = eq-eqb (w % 512) 0 even in
-    let same : w / 512 * 512 ≡ w = omega arith in
-    let f = ne_eqb w 0 (omega arith) in
-    rw e (rw same (rw f refl))
-
-pub block_placed : (t : Tables) (k at w : ℕ) → block_at t k ≡ at → block_word t k ≡ w → w % 512 ≡ 0 → 0 < w → block_item t k ≡ placed t at w
-block_placed t k at w e f even some = ap (λ x. shape t x (block_word t k)) e ∙ ap (shape t at) f ∙ shape_placed t at w even some
-
--- an L2 entry that names a place
-pub zero_placed : (t : Tables) (capacity start at place : ℕ) → place ≢ 0
-    → beyond capacity start (placed t at place) ≡ l2_item_of t capacity start at (Ok (Zero place))
-zero_placed t capacity start at place some =
-    ap (λ (b : Bool). beyond capacity start (if b then record { at = at; wrong = None; name = None } else placed t at place)) (sym (ne_eqb place 0 some))
+-- the word at a place, which its sector has
+pub word_of_sector : (count : ℕ) (sectors : ℕ → List ℕ) (place at : ℕ) (sector : List ℕ) → place % 8 ≡ 0 → at ≡ place → sector ≡ sector_in count sectors (at / 512 * 512 / 512)
+    → (file_of count sectors).word (place / 8) ≡ number 8 (8 * (at % 512 / 8)) sector
+unfolding file_of
+word_of_sector count sectors place at sector even same is =
+    let low : place / 8 % 64 * 8 ≡ 8 * (at % 512 / 8) = omega (arith, even, same) in
+    let high : place / 8 / 64 ≡ at / 512 * 512 / 512 = omega (arith, even, same) in
+    ap (λ n. number 8 n (sector_in count sectors (place / 8 / 64))) low ∙ ap (λ n. number 8 (8 * (at % 512 / 8)) (sector_in count sectors n)) high ∙ ap (number 8 (8 * (at % 512 / 8))) (sym is)

@@ -1,5 +1,5 @@
 -- What stays known of a file, and what an opening that knows it says of its steps.
-use Rattle.std.proofs.Common.{◌≡◌, ℕ, ◌*◌, ◌^◌, ◌<◌, ◌≤◌, Bool, true, false, List, Option, Some, None, Result, Ok, Err, refl, sym, ap, ◌∙◌, arith, nat_lt}
+use Rattle.std.proofs.Common.{◌≡◌, ℕ, ◌<◌, ◌≤◌, Bool, true, false, List, Option, Some, None, Result, Ok, Err, refl, sym, ap, ◌∙◌, subst, arith, nat_lt}
 use Rattle.std.specs.Prelude.{unwrap_or, if◌then◌else◌}
 use Rattle.std.proofs.lemmas.Bool.Decides.{nat_tests}
 use Rattle.sd_names.specs.declared.fault.LayerFault.{LayerFault}
@@ -14,16 +14,21 @@ use Rattle.qcow_format.proofs.Kept.{backing_id-none}
 use Rattle.image_model.specs.File as image
 use Rattle.image_model.specs.File.{file_of, sector_in}
 use Rattle.image_model.specs.Soundness.{layer_header, layer_header_of}
+use Rattle.layer_walk.specs.Items.{layer_of}
+use Rattle.layer_walk.specs.Known.{work_of}
+use Rattle.layer_walk.specs.Left.{Fits}
+use Rattle.layer_walk.specs.Steps.{IsStop, named_from}
+use Rattle.layer_walk.proofs.Named.{walk_fits}
 use Rattle.qcow_layer.specs.Left.{IsOf}
 use Rattle.qcow_layer.specs.Opening.{SameLength}
-use Rattle.qcow_layer.specs.Stages.{HasHeader, IsOpened, Knows, StageKnows}
+use Rattle.qcow_layer.specs.Stages.{IsOpened, Knows, StageKnows}
 use Rattle.qcow_layer.specs.Seen.{IsSeen}
-use Rattle.qcow_layer.specs.declared.work.Target.{Target}
-use Rattle.qcow_layer.specs.declared.work.Work.{Work}
-use Rattle.qcow_layer.specs.declared.work.Stage.{Stage}
-use Rattle.qcow_layer.specs.declared.work.Stage.TheVariants.{Begun, Sized, Counting, Blocks, L1, L2, Taken}
-use Rattle.qcow_layer.proofs.Pieces.{past_end, same_file}
-use Rattle.qcow_layer.proofs.Starts.{size_of}
+use Rattle.qcow_layer.specs.declared.stages.Target.{Target}
+use Rattle.layer_walk.specs.declared.work.Work.{Work}
+use Rattle.qcow_layer.specs.declared.stages.Stage.{Stage}
+use Rattle.qcow_layer.specs.declared.stages.Stage.TheVariants.{Begun, Sized, Walking}
+use Rattle.layer_walk.proofs.Numbers.{past_end}
+use Rattle.qcow_layer.proofs.Pieces.{same_file}
 
 -- ---- the bound of an opening
 
@@ -31,45 +36,31 @@ one_header : (r : Result Header LayerFault) (a b : Header) → r ≡ Ok a → r 
 one_header (Ok h) a b e f = cc
 one_header (Err fault) a b e f = absurd cc
 
-work_of : (capacity count : ℕ) (sectors : ℕ → List ℕ) (work : Work) (h : Header) → HasHeader capacity (file_of count sectors) work
-    → layer_header (file_of count sectors) capacity ≡ Ok h → work.marks.size ≡ (file_of count sectors).size → work.marks.cluster ≡ 2 ^ work.header.cluster_bits
-    → (work.header ≡ h) × (work.marks.size ≡ 512 * count) × (work.marks.cluster ≡ 2 ^ h.cluster_bits)
-work_of capacity count sectors work h has is sized wide =
-    let same = one_header (layer_header (file_of count sectors) capacity) work.header h has.0 is in
-    (same, sized ∙ size_of count sectors, wide ∙ ap (λ (x : Header). 2 ^ x.cluster_bits) same)
-
-pub bounds : (target : Target) (host count : ℕ) (sectors : ℕ → List ℕ) (stage : Stage) (h : Header) (d : Content) → Knows target host count sectors stage d
-    → layer_header (file_of count sectors) target.capacity ≡ Ok h → IsOf h (512 * count) stage
-bounds target host count sectors Begun h d knows is = tt
-bounds target host count sectors (Sized length) h d knows is = knows.holds.0
-bounds target host count sectors (Counting work next block) h d knows is =
-    let w = knows.holds.is_work in work_of target.capacity count sectors work h w.header is w.size w.cluster
-bounds target host count sectors (Blocks work k) h d knows is =
-    let w = knows.holds.0 in work_of target.capacity count sectors work h w.header is w.fits.size w.fits.cluster
-bounds target host count sectors (L1 work i) h d knows is =
-    let w = knows.holds in work_of target.capacity count sectors work h w.header is w.fits.size w.fits.cluster
-bounds target host count sectors (L2 work i table j row) h d knows is =
-    let w = knows.holds.0 in work_of target.capacity count sectors work h w.header is w.fits.size w.fits.cluster
-bounds target host count sectors (Taken work place block) h d knows is =
-    let w = knows.holds.is_work in work_of target.capacity count sectors work h w.header is w.size w.cluster
+pub bounds : (target : Target) (host count stop : ℕ) (sectors : ℕ → List ℕ) (stage : Stage) (h : Header) (d : Content) → Knows target host count sectors stage d
+    → layer_header (file_of count sectors) target.capacity ≡ Ok h → IsStop (layer_of h (file_of count sectors)) target.capacity stop
+    → IsOf h (named_from (layer_of h (file_of count sectors)) target.capacity stop) stage
+bounds target host count stop sectors Begun h d knows is stops = tt
+bounds target host count stop sectors (Sized length) h d knows is stops = tt
+bounds target host count stop sectors (Walking w) h d knows is stops =
+    let same : (work_of w).header ≡ h = one_header (layer_header (file_of count sectors) target.capacity) (work_of w).header h knows.holds.0.header.0 is in (
+      same,
+      subst (λ x. IsStop (layer_of x (file_of count sectors)) target.capacity stop → Fits x (named_from (layer_of x (file_of count sectors)) target.capacity stop) w) same
+          (λ s. walk_fits (layer_of (work_of w).header (file_of count sectors)) target.capacity stop s w knows.holds.1) stops,
+    )
 
 -- ---- what others may do
 
-holds_on : (capacity before after count : ℕ) (sectors : ℕ → List ℕ) (stage : Stage) → StageKnows capacity before count sectors stage → SameLength stage before after
-    → StageKnows capacity after count sectors stage
-holds_on capacity before after count sectors Begun holds same = holds ∙ sym same
-holds_on capacity before after count sectors (Sized length) holds same = holds
-holds_on capacity before after count sectors (Counting work next block) holds same = holds
-holds_on capacity before after count sectors (Blocks work k) holds same = holds
-holds_on capacity before after count sectors (L1 work i) holds same = holds
-holds_on capacity before after count sectors (L2 work i table j row) holds same = holds
-holds_on capacity before after count sectors (Taken work place block) holds same = holds
+holds_on : (target : Target) (before after count : ℕ) (sectors : ℕ → List ℕ) (stage : Stage) → StageKnows target before count sectors stage → SameLength stage before after
+    → StageKnows target after count sectors stage
+holds_on target before after count sectors Begun holds same = holds ∙ sym same
+holds_on target before after count sectors (Sized length) holds same = holds
+holds_on target before after count sectors (Walking w) holds same = holds
 
 pub survives : (target : Target) (host count : ℕ) (sectors : ℕ → List ℕ) (stage : Stage) (d e : Content) → (knows : Knows target host count sectors stage d)
     → (s : IsSeen host target.place count sectors e) → SameLength stage knows.seen.file.size s.file.size → Knows target host count sectors stage e
 survives target host count sectors stage d e knows s same = record {
   seen = s;
-  holds = holds_on target.capacity knows.seen.file.size s.file.size count sectors stage knows.holds same;
+  holds = holds_on target knows.seen.file.size s.file.size count sectors stage knows.holds same;
 }
 
 pub untouched : (host count : ℕ) (place : Place) (sectors : ℕ → List ℕ) (d e : Content) → e.file place ≡ d.file place → IsSeen host place count sectors d → IsSeen host place count sectors e
@@ -121,8 +112,8 @@ header_in file capacity h e = go (nat_lt file.size 512) (header_of file.head) re
     go false (Err fault) is e = absurd cc
     go false (Ok x) is e = is ∙ ap (λ (g : Header). Ok g) (kept_header h x (nat_lt x.size capacity) e)
 
-pub parent_none : (capacity : ℕ) (file : image.File) (work : Work) → IsOpened capacity file work
+pub parent_none : (target : Target) (file : image.File) (work : Work) → IsOpened target file work
     → (work.parent ≡ None → work.header.backing_file_offset ≡ 0) × (work.header.backing_file_offset ≡ 0 → work.parent ≡ None)
-parent_none capacity file work opened =
-    let none = backing_id-none file.head work.header (header_in file capacity work.header opened.header.0) in
-    (λ e. none.0 (sym opened.header.1 ∙ e), λ e. opened.header.1 ∙ none.1 e)
+parent_none target file work opened =
+    let none = backing_id-none file.head work.header (header_in file target.capacity work.header opened.is_work.header.0) in
+    (λ e. none.0 (sym opened.is_work.header.1 ∙ e), λ e. opened.is_work.header.1 ∙ none.1 e)

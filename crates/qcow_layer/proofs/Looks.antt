@@ -15,15 +15,17 @@ use Rattle.qcow_format.specs.declared.entry.Entry.TheVariants.{Absent}
 use Rattle.image_model.specs.File.{File, file_of, sector_in}
 use Rattle.image_model.specs.Layer.{Tables, entries, entry_at, entry_behind, entry_or_absent, l1_at, l1_entry, l2_at, l2_entry, names_table}
 use Rattle.image_model.specs.Soundness.{IsClean}
-use Rattle.qcow_layer.specs.Items.{layer_of}
+use Rattle.layer_walk.specs.Items.{layer_of}
+use Rattle.layer_walk.specs.Known.{tables_of}
 use Rattle.qcow_layer.specs.Looking.{IsLookedUp, LooksUp}
-use Rattle.qcow_layer.specs.Stages.{IsOpened, tables_of}
+use Rattle.qcow_layer.specs.Knowing.{KnowsLayerOn, KnowsNumbers}
 use Rattle.qcow_layer.specs.Seen.{IsSeen}
 use Rattle.qcow_layer.specs.declared.layer.Layer.{Layer}
-use Rattle.qcow_layer.specs.declared.work.Work.{Work}
-use Rattle.qcow_layer.proofs.Walks.{by_sectors, pages}
-use Rattle.qcow_layer.proofs.L1Walks.{l1_low, word_of_sector}
-use Rattle.qcow_layer.proofs.L2Walks.{placed_by, offset_small, offset_even}
+use Rattle.layer_walk.proofs.Sizes.{by_sectors}
+use Rattle.layer_walk.proofs.Spans.{pages}
+use Rattle.layer_walk.proofs.L2Walks.{placed_by, offset_small, offset_even}
+use Rattle.qcow_layer.proofs.Entries.{l1_low, word_of_sector}
+use Rattle.qcow_layer.proofs.Steps.{size_of}
 
 -- ---- what a layer says
 
@@ -54,16 +56,16 @@ entry_from t k r lt is =
 
 -- ---- what is known of a layer that was opened
 
-all_clean : (capacity : ℕ) (file : File) (work : Work) → IsOpened capacity file work → (n : ℕ) → IsClean (tables_of work file) capacity n
-all_clean capacity file work opened =
-    subst (λ r. MatchResult r (λ h. (n : ℕ) → IsClean (layer_of h file) capacity n) (λ f. ⊥)) opened.header.0 opened.sound
+all_clean : (layer : Layer) (file : File) → KnowsNumbers layer file → (n : ℕ) → IsClean (tables_of layer.work file) layer.target.capacity n
+all_clean layer file knows = subst (λ r. MatchResult r (λ h. (n : ℕ) → IsClean (layer_of h file) layer.target.capacity n) (λ f. ⊥)) knows.header knows.sound
 
 pub past_l1 : (layer : Layer) (host k : ℕ) (d : Content) → layer.work.header.l1_size ≤ k / (2 ^ layer.work.header.cluster_bits / 8)
     → LooksUp layer host k None (Done (record { entry = Absent; table = false })) d d
 past_l1 layer host k d past = record {
   same = refl;
   gone = tt;
-  after = λ count sectors seen opened known. entry_past (tables_of layer.work (file_of count sectors)) k past;
+  kept = λ known. known;
+  after = λ count sectors seen fits opened known. entry_past (tables_of layer.work (file_of count sectors)) k past;
 }
 
 module _ (layer : Layer) (host k at : ℕ) (sector : List ℕ) (d e : Content)
@@ -71,15 +73,15 @@ module _ (layer : Layer) (host k at : ℕ) (sector : List ℕ) (d e : Content)
     (near : layer.work.header.l1_table_offset + 8 * (k / (2 ^ layer.work.header.cluster_bits / 8)) < 2 ^ 64 → at ≡ layer.work.header.l1_table_offset + 8 * (k / (2 ^ layer.work.header.cluster_bits / 8)))
     (read : (count : ℕ) (sectors : ℕ → List ℕ) → IsSeen host layer.target.place count sectors d → sector ≡ sector_in count sectors (at / 512 * 512 / 512))
     (same : IsSame d e) where
-  l1_read : (count : ℕ) (sectors : ℕ → List ℕ) → IsSeen host layer.target.place count sectors d → IsOpened layer.target.capacity (file_of count sectors) layer.work
+  l1_read : (count : ℕ) (sectors : ℕ → List ℕ) → IsSeen host layer.target.place count sectors d → 512 * count < 2 ^ 64 → KnowsNumbers layer (file_of count sectors)
       → l1_entry (tables_of layer.work (file_of count sectors)) (k / (2 ^ layer.work.header.cluster_bits / 8)) ≡ table_in (number 8 (8 * (at % 512 / 8)) sector) at
-  l1_read count sectors seen opened =
+  l1_read count sectors seen fits opened =
       let file : File = file_of count sectors in
       let t : Tables = tables_of layer.work file in
       let i : ℕ = k / (2 ^ layer.work.header.cluster_bits / 8) in
-      let small : file.size < 2 ^ 64 = subst (λ n. n < 2 ^ 64) opened.fits.size layer.work.marks.fits in
+      let small : file.size < 2 ^ 64 = subst (λ n. n < 2 ^ 64) (sym (size_of count sectors)) fits in
       let low : l1_at t i + 8 ≤ 2 ^ 64 =
-      l1_low t layer.target.capacity i (λ j less. all_clean layer.target.capacity file layer.work opened (1 + j)) layer.work.high layer.work.l1_aligned small lt in
+      l1_low t layer.target.capacity i (λ j less. all_clean layer file opened (1 + j)) layer.work.high layer.work.l1_aligned small lt in
       let even = by_sectors layer.work.header.cluster_bits layer.work.header.l1_table_offset layer.work.low layer.work.l1_aligned in
       let here : at ≡ l1_at t i = near (omega (arith, low)) in
       let word = word_of_sector count sectors (l1_at t i) at sector (omega (arith, even)) here (read count sectors seen) in
@@ -90,9 +92,10 @@ module _ (layer : Layer) (host k at : ℕ) (sector : List ℕ) (d e : Content)
   no_table r is absent none = record {
     same = same;
     gone = tt;
-    after = λ count sectors seen opened known.
+    kept = subst (λ x. KnowsLayerOn layer host d → KnowsLayerOn layer host x) (sym same) (λ known. known);
+    after = λ count sectors seen fits opened known.
         let t : Tables = tables_of layer.work (file_of count sectors) in
-        let found = entry_from t k r lt (l1_read count sectors seen opened ∙ sym is) in
+        let found = entry_from t k r lt (l1_read count sectors seen fits opened ∙ sym is) in
         record { entry = sym (absent t (k % entries t)) ∙ found.entry; table = sym none ∙ found.table };
   }
 
@@ -101,7 +104,8 @@ module _ (layer : Layer) (host k at : ℕ) (sector : List ℕ) (d e : Content)
   table_found table is = record {
     same = same;
     gone = tt;
-    after = λ count sectors seen opened known. (refl, (lt, l1_read count sectors seen opened ∙ sym is));
+    kept = subst (λ x. KnowsLayerOn layer host d → KnowsLayerOn layer host x) (sym same) (λ known. known);
+    after = λ count sectors seen fits opened known. (refl, (lt, l1_read count sectors seen fits opened ∙ sym is));
   }
 
 pub few_entries : (bits : ℕ) → bits ≤ 21 → 2 ^ bits / 8 ≤ 262144
@@ -119,7 +123,8 @@ module _ (layer : Layer) (host k table at : ℕ) (sector : List ℕ) (d e : Cont
   entry_found r is = record {
     same = same;
     gone = tt;
-    after = λ count sectors seen opened known.
+    kept = subst (λ x. KnowsLayerOn layer host d → KnowsLayerOn layer host x) (sym same) (λ known. known);
+    after = λ count sectors seen fits opened known.
         let file : File = file_of count sectors in
         let t : Tables = tables_of layer.work file in
         let j : ℕ = k % (2 ^ layer.work.header.cluster_bits / 8) in

@@ -1,8 +1,7 @@
 -- What a read gives, sector by sector.
-use Rattle.std.proofs.Common.{◌≡◌, ◌⊎◌, ℕ, zero, suc, ◌+◌, ◌-◌, ◌*◌, ◌<◌, ◌≤◌, min, false, List, [], ◌++◌, length, take, drop, replicate, Some, refl, sym, ap, ◌∙◌, subst, inl, inr, arith, nat_lt}
+use Rattle.std.proofs.Common.{◌≡◌, ◌⊎◌, ℕ, zero, suc, ◌+◌, ◌-◌, ◌*◌, ◌<◌, ◌≤◌, min, List, [], ◌++◌, length, take, drop, replicate, Some, sym, ap, ◌∙◌, subst, inl, inr, arith}
 use Rattle.std.specs.List.{flat_map, range_with_len}
 use Rattle.std.proofs.lemmas.Bool.{cases_lt}
-use Rattle.std.proofs.lemmas.Bool.Decides.{nat_tests}
 use Rattle.std.proofs.lemmas.List.{drop-drop, drop-replicate, take-replicate}
 use Rattle.std.proofs.Math.Seq.{take-add, take-length}
 use Rattle.sd_names.specs.declared.place.Place.{Place}
@@ -11,6 +10,7 @@ use Rattle.shared_disk.specs.Calls.{ReadsAs}
 use Rattle.image_model.specs.File.{sector_in}
 use Rattle.qcow_layer.specs.Seen.{IsSeen, head_of}
 use Rattle.shared_disk.proofs.NameOutcomes.{alone_sees}
+use Rattle.layer_walk.proofs.Numbers.{past_end}
 
 -- past what was read the room is as it was, zeros
 zeros_in : (w total count j : ℕ) (xs : List ℕ) → drop count xs ≡ drop count (replicate total 0) → count ≤ j → j + w ≤ total → take w (drop j xs) ≡ replicate w 0
@@ -22,9 +22,6 @@ zeros_in w total count j xs same above within =
 
 rest_zero : (m count k : ℕ) (xs : List ℕ) → drop count xs ≡ drop count (replicate (512 * m) 0) → count ≤ 512 * k → k < m → sector_of xs k ≡ replicate 512 0
 rest_zero m count k xs same above within = zeros_in 512 (512 * m) count (512 * k) xs same above (omega arith)
-
-pub past_end : (count k : ℕ) (sectors : ℕ → List ℕ) → count ≤ k → sector_in count sectors k ≡ replicate 512 0
-past_end count k sectors le = let e : nat_lt k count ≡ false = grind (arith, nat_tests) in rw e refl
 
 pub sector_read : (host m at n count k : ℕ) (sectors : ℕ → List ℕ) (f : File) (xs : List ℕ) → count ≤ f.size → without host f.loose ≡ []
     → ((j : ℕ) → j < f.size → seen host f j ≡ sector_in count sectors j)

@@ -1,5 +1,5 @@
 -- The first steps of an opening.
-use Rattle.std.proofs.Common.{◌≡◌, inl, inr, ℕ, ◌-◌, ◌*◌, ◌<◌, ◌≤◌, Bool, true, false, List, Option, Some, None, ◌^◌, Result, Ok, Err, refl, sym, ap, ◌∙◌, subst, arith, nat_lt}
+use Rattle.std.proofs.Common.{◌≡◌, inl, inr, ℕ, ◌*◌, ◌<◌, ◌≤◌, max, Bool, true, false, List, Option, Some, ◌^◌, Result, Ok, Err, refl, sym, ap, ◌∙◌, subst, arith, nat_lt}
 use Rattle.std.specs.Prelude.{MatchResult, if◌then◌else◌}
 use Rattle.std.proofs.lemmas.Bool.Decides.{nat_tests}
 use Rattle.sd_names.specs.declared.fault.LayerFault.{LayerFault}
@@ -19,17 +19,21 @@ use Rattle.image_model.specs.File.{file_of}
 use Rattle.image_model.specs.File as image
 use Rattle.sd_names.specs.declared.refusal.Refusal.{Refusal}
 use Rattle.image_model.specs.Soundness.{HasFault, FirstFault, layer_header, layer_header_of}
-use Rattle.qcow_layer.specs.Items.{layer_of}
-use Rattle.std.proofs.Math.Nat.{zero-mod}
-use Rattle.qcow_layer.specs.Marks.{free_by}
-use Rattle.qcow_layer.specs.declared.work.Work.{Work}
-use Rattle.qcow_layer.specs.Stages.{BeginsCounting, Knows, Steps}
+use Rattle.layer_walk.specs.Items.{layer_of}
+use Rattle.layer_walk.specs.Known.{Keeps, Leads}
+use Rattle.layer_walk.specs.Walking.{StartKnown}
+use Rattle.layer_walk.specs.Left.{Below, Fits, begin_left, walk_left}
+use Rattle.layer_walk.specs.Marks.{IsNew, map_size}
+use Rattle.layer_walk.specs.declared.walk.Passed.{Passed}
+use Rattle.layer_walk.specs.declared.walk.Passed.TheVariants as passed
+use Rattle.layer_walk.specs.declared.work.Work.{Work}
+use Rattle.qcow_layer.specs.Stages.{BeginsWork, Knows, Steps, roof, turn_of}
+use Rattle.qcow_layer.specs.Left.{Falls}
 use Rattle.qcow_layer.specs.Seen.{IsSeen, IsReadRefusal, head_of}
-use Rattle.qcow_layer.specs.declared.work.Target.{Target}
-use Rattle.qcow_layer.specs.declared.work.Stage.TheVariants.{Begun, Sized, Counting}
+use Rattle.qcow_layer.specs.declared.stages.Target.{Target}
+use Rattle.qcow_layer.specs.declared.stages.Stage.TheVariants.{Begun, Sized}
 use Rattle.qcow_layer.proofs.Pieces.{same_file}
-use Rattle.std.proofs.lemmas.Nat.{pow_pos}
-use Rattle.qcow_layer.proofs.Walks.{read_refused, pages}
+use Rattle.qcow_layer.proofs.Steps.{read_refused, size_of, turned}
 
 short_header : (count capacity : ℕ) (sectors : ℕ → List ℕ) → 512 * count < 512 → layer_header (file_of count sectors) capacity ≡ Err Short
 unfolding layer_header file_of
@@ -113,10 +117,6 @@ head_is : (count : ℕ) (sectors : ℕ → List ℕ) → (file_of count sectors)
 unfolding file_of head_of
 head_is count sectors = refl
 
-pub size_of : (count : ℕ) (sectors : ℕ → List ℕ) → (file_of count sectors).size ≡ 512 * count
-unfolding file_of
-size_of count sectors = refl
-
 less_test : (a b : ℕ) → a < b → nat_lt a b ≡ true
 less_test a b lt = grind (arith, nat_tests)
 
@@ -124,40 +124,42 @@ more_test : (a b : ℕ) → b ≤ a → nat_lt a b ≡ false
 more_test a b le = grind (arith, nat_tests)
 
 pub header_small : (target : Target) (length : ℕ) (header : Header) → header.size < target.capacity
-    → (parent : Option Id) → BeginsCounting target length header parent (Ended tt (LayerRefused target.volume (Size header.size)))
+    → (parent : Option Id) → BeginsWork target length header parent (Ended tt (LayerRefused target.volume (Size header.size)))
 header_small target length header lt parent host count sectors d seen is long e named = (
   refl,
   header_fault (file_of count sectors) target.capacity (Size header.size)
       (header_is count target.capacity sectors header (subst (λ n. 512 ≤ n) is long) e ∙ ap (λ (b : Bool). if b then Err (Size header.size) else Ok header) (less_test header.size target.capacity lt)),
 )
 
-pub no_memory : (target : Target) (length : ℕ) (header : Header) → target.capacity ≤ header.size → (parent : Option Id) → BeginsCounting target length header parent (Ended tt OutOfMemory)
+pub no_memory : (target : Target) (length : ℕ) (header : Header) → target.capacity ≤ header.size → (parent : Option Id) → BeginsWork target length header parent (Ended tt OutOfMemory)
 no_memory target length header fits parent host count sectors d seen is long e named = (
   header,
   header_is count target.capacity sectors header (subst (λ n. 512 ≤ n) is long) e ∙ ap (λ (b : Bool). if b then Err (Size header.size) else Ok header) (more_test header.size target.capacity fits),
 )
 
-pub header_fine : (target : Target) (length : ℕ) (work : Work) → target.capacity ≤ work.header.size → work.marks.size ≡ length → work.marks.cluster ≡ 2 ^ work.header.cluster_bits
-    → ((c : ℕ) → free_by work.marks c ≡ false) → BeginsCounting target length work.header work.parent (More (Counting work 0 None))
-header_fine target length work fits size cluster free host count sectors d seen is long e named = record {
-  seen = seen;
-  holds = record {
-    is_work = record {
+-- the walk begins
+pub header_fine : (target : Target) (length : ℕ) (work : Work) (p : Passed) → target.capacity ≤ work.header.size → IsNew length (2 ^ work.header.cluster_bits) (roof target.greatest) work.marks
+    → Keeps work p → Leads work (λ t capacity. StartKnown work.marks) p → BeginsWork target length work.header work.parent (turn_of target p)
+header_fine target length work p fits new keeps leads host count sectors d seen is long e named =
+    let size : work.marks.size ≡ (file_of count sectors).size = new.size ∙ is ∙ sym (size_of count sectors) in
+    turned target host count sectors work p d seen
+    (record {
       header = (
         header_is count target.capacity sectors work.header (subst (λ n. 512 ≤ n) is long) e ∙ ap (λ (b : Bool). if b then Err (Size work.header.size) else Ok work.header) (more_test work.header.size target.capacity fits),
         named ∙ ap (backing_id work.header) (sym (head_is count sectors)),
       );
-      size = size ∙ is ∙ sym (size_of count sectors);
-      cluster = cluster;
-    };
-    below = λ c lt. absurd (omega (arith, lt));
-    above = λ c le. free c;
-    whole = refl;
-    known = λ place f. absurd cc;
-    some = λ place f. absurd cc;
-    start = λ f. zero-mod _;
-  };
-}
+      marks = record { size = size; cluster = new.cluster };
+      room = new.room ∙ ap (λ n. map_size (max n (roof target.greatest)) (2 ^ work.header.cluster_bits)) (is ∙ sym (size_of count sectors));
+    })
+    keeps
+    (leads target.capacity count sectors (record { size = size; cluster = new.cluster }) (record { naming = new.noted; free = new.free }))
 
-pub wide_cluster : (bits n : ℕ) → 12 ≤ bits → n ≡ 2 ^ bits → 256 ≤ n
-wide_cluster bits n low e = let p = pages bits low in let q = pow_pos (bits - 12) in omega (arith, p, q, e)
+pub begin_falls : (target : Target) (length : ℕ) (work : Work) (p : Passed) → Keeps work p → Below work (λ h tables. begin_left h tables) p → Falls (Sized length) (turn_of target p)
+begin_falls target length work (passed.More next) keeps below = λ h tables anti is. (
+  tt,
+  let same : work.header ≡ h = sym keeps.header ∙ is.0 in
+      let lt : walk_left h tables next < begin_left h tables = subst (λ x. walk_left x tables next < begin_left x tables) same (below tables anti (subst (λ x. Fits x tables next) (sym same) is.1)) in
+      omega (arith, lt),
+)
+begin_falls target length work (passed.Sound done) keeps below = tt
+begin_falls target length work (passed.Fault fault) keeps below = tt

@@ -1,10 +1,6 @@
-pub mod Bits
-pub mod Checked
-pub mod Items
+pub mod Knowing
 pub mod Left
 pub mod Looking
-pub mod Marks
 pub mod Opening
-pub mod Stages
-pub mod Positions
 pub mod Seen
+pub mod Stages

@@ -1,5 +1,5 @@
 -- The looking up of a cluster, and what it finds.
-use Rattle.std.specs.Prelude.{◌≡◌, ℕ, ◌/◌, ◌<◌, List, Option, Some, None, Ok}
+use Rattle.std.specs.Prelude.{◌≡◌, ℕ, ◌*◌, ◌/◌, ◌^◌, ◌<◌, List, Option, Some, None, Ok}
 use Rattle.sd_names.specs.declared.refusal.Refusal.{Refusal}
 use Rattle.sd_names.specs.declared.refusal.Refusal.TheVariants.{DiskFault}
 use Rattle.sd_names.specs.declared.turn.Turn.{Turn}
@@ -8,7 +8,9 @@ use Rattle.shared_disk.specs.Content.{Content}
 use Rattle.shared_disk.specs.Calls.{IsSame}
 use Rattle.image_model.specs.File.{file_of}
 use Rattle.image_model.specs.Layer.{Tables, entries, entry_at, has_table, l1_entry}
-use Rattle.qcow_layer.specs.Stages.{IsGone, IsOpened, tables_of}
+use Rattle.layer_walk.specs.Known.{tables_of}
+use Rattle.qcow_layer.specs.Knowing.{KnowsLayerOn, KnowsNumbers}
+use Rattle.qcow_layer.specs.Stages.{IsGone}
 use Rattle.qcow_layer.specs.Seen.{IsSeen}
 use Rattle.qcow_layer.specs.declared.layer.Layer.{Layer}
 use Rattle.qcow_layer.specs.declared.looking.Looked.{Looked}
@@ -40,11 +42,13 @@ abbrev pub IsFault : Refusal → Type 0
 IsFault (DiskFault n) = Unit {0}
 IsFault _ = ⊥
 
--- What a step does: it changes nothing. Where the host sees the file that was opened, what it finds is what the layer says.
+-- What a step does: it changes nothing, and what is known of the layer stays known. Where the host sees a file of which the
+-- layer's numbers are known, what it finds is what the layer says.
 pub record LooksUp (layer : Layer) (host k : ℕ) (table : Option ℕ) (turn : Turn Looking Looked (Unit {0})) (d e : Content) : Type 0 where
   pub same : IsSame d e
   pub gone : MatchTurn turn (λ _. Unit {0}) (λ _. Unit {0}) (λ _ refusal. IsGone layer.target refusal d)
-  pub after : (count : ℕ) (sectors : ℕ → List ℕ) → IsSeen host layer.target.place count sectors d → IsOpened layer.target.capacity (file_of count sectors) layer.work
+  pub kept : KnowsLayerOn layer host d → KnowsLayerOn layer host e
+  pub after : (count : ℕ) (sectors : ℕ → List ℕ) → IsSeen host layer.target.place count sectors d → 512 * count < 2 ^ 64 → KnowsNumbers layer (file_of count sectors)
       → KnowsTable (tables_of layer.work (file_of count sectors)) k table → MatchTurn turn
       (λ next. (cluster_of next ≡ k) × KnowsTable (tables_of layer.work (file_of count sectors)) k (table_of next))
       (λ looked. IsLookedUp (tables_of layer.work (file_of count sectors)) k looked)

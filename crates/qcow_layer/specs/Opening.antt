@@ -1,5 +1,5 @@
 -- An opening between its steps, and the layer that it finds.
-use Rattle.std.specs.Prelude.{◌≡◌, ℕ, ◌<◌, Bool, List, Option}
+use Rattle.std.specs.Prelude.{◌≡◌, ℕ, ◌+◌, ◌*◌, ◌/◌, ◌^◌, ◌<◌, Bool, List, Option}
 use Rattle.sd_names.specs.declared.id.Id.{Id}
 use Rattle.sd_names.specs.declared.place.Place.{Place}
 use Rattle.sd_names.specs.declared.turn.Turn.{Turn}
@@ -8,14 +8,16 @@ use Rattle.shared_disk.specs.Content.{Content}
 use Rattle.shared_disk.specs.Calls.{IsSame}
 use Rattle.qcow_format.specs.declared.header.Header.{Header}
 use Rattle.image_model.specs.File.{file_of}
-use Rattle.qcow_layer.specs.Left.{IsOf, left_of}
+use Rattle.layer_walk.specs.Left.{Antitone}
+use Rattle.qcow_layer.specs.Left.{HasHead, IsOf, left_of}
 use Rattle.qcow_layer.specs.Stages.{IsGone, IsOpened, IsRefused, Knows, takes_map}
 use Rattle.qcow_layer.specs.Seen.{IsSeen}
+use Rattle.layer_walk.specs.declared.work.Work.{Work}
 use Rattle.qcow_layer.specs.declared.layer.Layer.{Layer}
 use Rattle.qcow_layer.specs.declared.opening.Opening.{Opening}
-use Rattle.qcow_layer.specs.declared.work.Stage.{Stage}
-use Rattle.qcow_layer.specs.declared.work.Stage.TheVariants.{Begun, Sized, Counting, Blocks, L1, L2, Taken}
-use Rattle.qcow_layer.specs.declared.work.Target.{Target}
+use Rattle.qcow_layer.specs.declared.stages.Stage.{Stage}
+use Rattle.qcow_layer.specs.declared.stages.Stage.TheVariants.{Begun, Sized, Walking}
+use Rattle.qcow_layer.specs.declared.stages.Target.{Target}
 
 -- which layer is opened
 abbrev pub target_of : Opening → Target
@@ -23,6 +25,9 @@ target_of o = o.target
 
 abbrev pub target_kept : Layer → Target
 target_kept layer = layer.target
+
+abbrev pub work_kept : Layer → Work
+work_kept layer = layer.work
 
 abbrev pub volume_kept : Layer → Id
 volume_kept layer = layer.target.volume
@@ -39,21 +44,19 @@ abbrev pub KnowsFile : Opening → ℕ → ℕ → (ℕ → List ℕ) → Conten
 KnowsFile o host count sectors d = Knows o.target host count sectors o.stage d
 
 -- an opening that was begun knows each file that the host sees, as long as it is
-pub record IsBegun (o : Opening) (id : Id) (at : Place) (bytes : ℕ) : Type 0 where
+pub record IsBegun (o : Opening) (id : Id) (at : Place) (bytes most : ℕ) : Type 0 where
   pub volume : (target_of o).volume ≡ id
   pub place : (target_of o).place ≡ at
   pub capacity : (target_of o).capacity ≡ bytes
+  pub greatest : (target_of o).greatest ≡ most
+  pub left : (h : Header) (tables : ℕ → ℕ) → left_of h tables o.stage ≡ 2 * (2 ^ h.cluster_bits / 512 * tables 0) + 5
   pub knows : (host count : ℕ) (sectors : ℕ → List ℕ) (d : Content) → (seen : IsSeen host at count sectors d) → count ≡ seen.file.size → KnowsFile o host count sectors d
 
 -- the file's length is the same, unless it was asked already
 abbrev pub SameLength : Stage → ℕ → ℕ → Type 0
 SameLength Begun before after = after ≡ before
 SameLength (Sized length) before after = Unit {0}
-SameLength (Counting work next block) before after = Unit {0}
-SameLength (Blocks work k) before after = Unit {0}
-SameLength (L1 work i) before after = Unit {0}
-SameLength (L2 work i table j row) before after = Unit {0}
-SameLength (Taken work place block) before after = Unit {0}
+SameLength (Walking w) before after = Unit {0}
 
 abbrev pub HasSameLength : Opening → ℕ → ℕ → Type 0
 HasSameLength o before after = SameLength o.stage before after
@@ -62,22 +65,22 @@ HasSameLength o before after = SameLength o.stage before after
 abbrev pub KeepsTarget : Opening → Turn Opening Layer (Unit {0}) → Type 0
 KeepsTarget o turn = MatchTurn turn (λ next. target_of next ≡ target_of o) (λ layer. target_kept layer ≡ target_of o) (λ _ _. Unit {0})
 
--- the header and the size of the file are these, as far as they are known
-abbrev pub OpensFile : Header → ℕ → Opening → Type 0
-OpensFile h size o = IsOf h size o.stage
+-- the header is this, as far as it is known, and what was looked at is among what is counted
+abbrev pub OpensFile : Header → (ℕ → ℕ) → Opening → Type 0
+OpensFile h tables o = IsOf h tables o.stage
 
 -- whether the next step takes memory
 abbrev pub may_lack_memory : Opening → Bool
 may_lack_memory o = takes_map o.stage
 
--- how many more steps the opening of a file of so many bytes with this header takes at the most
-abbrev pub steps_left : Header → ℕ → Opening → ℕ
-steps_left h size o = left_of h size o.stage
+-- how many more steps an opening takes at the most, where the positions from n on name so many tables
+abbrev pub steps_left : Header → (ℕ → ℕ) → Opening → ℕ
+steps_left h tables o = left_of h tables o.stage
 
 -- whatever the disk tells, an opening comes nearer to its end
 abbrev pub NearsEnd : Opening → Turn Opening Layer (Unit {0}) → Type 0
 NearsEnd o turn = MatchTurn turn
-    (λ next. (h : Header) (size : ℕ) → OpensFile h size next → OpensFile h size o × (steps_left h size next < steps_left h size o))
+    (λ next. (h : Header) (tables : ℕ → ℕ) → Antitone tables → OpensFile h tables next → HasHead h o.stage × (steps_left h tables next < steps_left h tables o))
     (λ _. Unit {0})
     (λ _ _. Unit {0})
 
@@ -87,5 +90,5 @@ pub record OpensOn (o : Opening) (host : ℕ) (turn : Turn Opening Layer (Unit {
   pub gone : MatchTurn turn (λ _. Unit {0}) (λ _. Unit {0}) (λ _ refusal. IsGone (target_of o) refusal d)
   pub after : (count : ℕ) (sectors : ℕ → List ℕ) → KnowsFile o host count sectors d → MatchTurn turn
       (λ next. KnowsFile next host count sectors e)
-      (λ layer. IsOpened (target_of o).capacity (file_of count sectors) layer.work)
+      (λ layer. IsOpened (target_of o) (file_of count sectors) layer.work)
       (λ _ refusal. IsRefused (target_of o) (file_of count sectors) refusal)

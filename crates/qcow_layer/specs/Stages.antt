@@ -1,11 +1,11 @@
 -- What an opening knows between its steps, and what a step does.
-use Rattle.std.specs.Prelude.{◌≡◌, ◌⊎◌, ℕ, ◌*◌, ◌/◌, ◌%◌, ◌<◌, ◌≤◌, Bool, true, false, nat_lt, List, Option, Some, None, Ok}
+use Rattle.std.specs.Prelude.{◌≡◌, ◌⊎◌, ℕ, ◌+◌, ◌-◌, ◌*◌, ◌/◌, ◌^◌, ◌<◌, ◌≤◌, min, max, Bool, true, false, not, List, Option, None, Ok}
 use Rattle.sd_names.specs.declared.id.Id.{Id}
 use Rattle.sd_names.specs.declared.refusal.Refusal.{Refusal}
 use Rattle.sd_names.specs.declared.refusal.Refusal.TheVariants.{DiskFault, Vanished, LayerRefused, OutOfMemory}
 use Rattle.sd_names.specs.declared.absence.Absence.TheVariants as absence
 use Rattle.sd_names.specs.declared.turn.Turn.{Turn}
-use Rattle.sd_names.specs.declared.turn.Turn.TheVariants.{More, Ended}
+use Rattle.sd_names.specs.declared.turn.Turn.TheVariants.{More, Done, Ended}
 use Rattle.sd_names.specs.Turn.{MatchTurn}
 use Rattle.shared_disk.specs.Content.{Content}
 use Rattle.shared_disk.specs.Calls.{IsSame}
@@ -14,86 +14,50 @@ use Rattle.qcow_format.specs.declared.header.Header.{Header}
 use Rattle.qcow_format.specs.Header.{header_of}
 use Rattle.qcow_format.specs.Name.{backing_id}
 use Rattle.image_model.specs.File.{File, file_of}
-use Rattle.image_model.specs.Layer.{Tables, cluster_size, entries, count_of, block_span, block_place, l1_entry}
-use Rattle.image_model.specs.Room.{Named}
+use Rattle.image_model.specs.Layer.{is_used}
 use Rattle.image_model.specs.Soundness.{layer_header, HasFault, IsSound}
-use Rattle.qcow_layer.specs.Checked.{Checked, IsTaken}
-use Rattle.qcow_layer.specs.Items.{layer_of}
-use Rattle.qcow_layer.specs.Marks.{MarksFile, free_by, used_in}
-use Rattle.qcow_layer.specs.Positions.{HasRow, block_position, l1_position, l2_position}
+use Rattle.layer_walk.specs.Bits.{room_of}
+use Rattle.layer_walk.specs.Known.{WalkKnows, tables_of, work_of}
+use Rattle.layer_walk.specs.Marks.{MarksFile, free_by, map_size}
+use Rattle.layer_walk.specs.declared.walk.Passed.{Passed}
+use Rattle.layer_walk.specs.declared.walk.Passed.TheVariants as passed
+use Rattle.layer_walk.specs.declared.work.Work.{Work}
 use Rattle.qcow_layer.specs.Seen.{IsSeen, head_of}
-use Rattle.qcow_layer.specs.declared.objection.Objection.{Objection}
-use Rattle.qcow_layer.specs.declared.objection.Objection.TheVariants as objection
-use Rattle.qcow_layer.specs.declared.objection.Objection.TheVariants.{Fault}
-use Rattle.qcow_layer.specs.declared.work.Target.{Target}
-use Rattle.qcow_layer.specs.declared.work.Work.{Work}
-use Rattle.qcow_layer.specs.declared.work.Stage.{Stage}
-use Rattle.qcow_layer.specs.declared.work.Stage.TheVariants.{Begun, Sized, Counting, Blocks, L1, L2, Taken}
+use Rattle.qcow_layer.specs.declared.stages.Target.{Target}
+use Rattle.qcow_layer.specs.declared.stages.Stage.{Stage}
+use Rattle.qcow_layer.specs.declared.stages.Stage.TheVariants.{Begun, Sized, Walking}
 
--- the layer that is looked at
-abbrev pub tables_of : Work → File → Tables
-tables_of work file = layer_of work.header file
+-- How long a file becomes for a volume of a capacity, in bytes: what the capacity, an eighth of it and 2 MiB come to, in
+-- whole units of 65,536 bytes. No file has a length that 64 bits can't hold.
+abbrev pub roof : ℕ → ℕ
+roof capacity = min (capacity + capacity / 8 + 2_097_152) (2 ^ 64 - 1) / 65_536 * 65_536
 
 -- the header is that of the file, and the parent the identifier with which the backing file's name in it ends
 abbrev pub HasHeader : ℕ → File → Work → Type 0
 HasHeader capacity file work = (layer_header file capacity ≡ Ok work.header) × (work.parent ≡ backing_id work.header file.head)
 
--- the header is that of the file, whose size and clusters' size are known
-pub record IsWork (capacity : ℕ) (file : File) (work : Work) : Type 0 where
-  pub header : HasHeader capacity file work
-  pub size : work.marks.size ≡ file.size
-  pub cluster : work.marks.cluster ≡ cluster_size (tables_of work file)
-
--- The counts of the clusters below `next` are noted, and no others; where a block is told it is that of `next`.
-pub record IsCounting (capacity : ℕ) (file : File) (work : Work) (next : ℕ) (block : Option ℕ) : Type 0 where
-  pub is_work : IsWork capacity file work
-  pub below : (c : ℕ) → c < next → c * cluster_size (tables_of work file) < file.size → free_by work.marks c ≡ nat_lt 0 (count_of (tables_of work file) c)
-  pub above : (c : ℕ) → next ≤ c → free_by work.marks c ≡ false
-  pub whole : next % 256 ≡ 0
-  pub known : (place : ℕ) → block ≡ Some place → block_place (tables_of work file) (next / block_span (tables_of work file)) ≡ place
-  pub some : (place : ℕ) → block ≡ Some place → 0 < place
-  pub start : block ≡ None → next % block_span (tables_of work file) ≡ 0
-
--- The counts are noted, and the positions below n are clean.
-pub record IsChecking (capacity : ℕ) (file : File) (work : Work) (n : ℕ) : Type 0 where
-  pub header : HasHeader capacity file work
-  pub fits : MarksFile work.marks (tables_of work file)
-  pub clean : Checked (tables_of work file) capacity n (used_in (tables_of work file) work.marks)
-
--- A cluster isn't free that the least position names which isn't clean. Where a block is told it is that of the cluster.
-pub record IsDoubted (capacity : ℕ) (file : File) (work : Work) (place : ℕ) (block : Option ℕ) : Type 0 where
-  pub is_work : IsWork capacity file work
-  pub taken : IsTaken (tables_of work file) capacity place
-  pub known : (b : ℕ) → block ≡ Some b → block_place (tables_of work file) (place / cluster_size (tables_of work file) / block_span (tables_of work file)) ≡ b
-  pub some : (b : ℕ) → block ≡ Some b → 0 < b
+-- so it is, and the map has the clusters of the file, and those that it gets
+pub record IsWork (target : Target) (file : File) (work : Work) : Type 0 where
+  pub header : HasHeader target.capacity file work
+  pub marks : MarksFile work.marks (tables_of work file)
+  pub room : room_of work.marks.free ≡ map_size (max file.size (roof target.greatest)) (2 ^ work.header.cluster_bits)
 
 -- What is known in a stage of a file that has, or had when it was asked, so many sectors. `now` is how many it has.
-abbrev pub StageKnows : ℕ → ℕ → ℕ → (ℕ → List ℕ) → Stage → Type 0
-StageKnows capacity now count sectors Begun = count ≡ now
-StageKnows capacity now count sectors (Sized length) = (length ≡ 512 * count) × (512 ≤ length)
-StageKnows capacity now count sectors (Counting work next block) = IsCounting capacity (file_of count sectors) work next block
-StageKnows capacity now count sectors (Blocks work k) =
-    IsChecking capacity (file_of count sectors) work (block_position (tables_of work (file_of count sectors)) k) × (k % 64 ≡ 0) × (k ≤ work.header.refcount_table_clusters * entries (tables_of work (file_of count sectors)))
-StageKnows capacity now count sectors (L1 work i) =
-    IsChecking capacity (file_of count sectors) work (l1_position (tables_of work (file_of count sectors)) i)
-StageKnows capacity now count sectors (L2 work i table j row) =
-    IsChecking capacity (file_of count sectors) work (l2_position (tables_of work (file_of count sectors)) i j)
-    × (i < work.header.l1_size) × (l1_entry (tables_of work (file_of count sectors)) i ≡ Ok (Some table)) × (j % 64 ≡ 0) × (j ≤ entries (tables_of work (file_of count sectors)))
-    × HasRow (tables_of work (file_of count sectors)) i row
-StageKnows capacity now count sectors (Taken work place block) = IsDoubted capacity (file_of count sectors) work place block
+abbrev pub StageKnows : Target → ℕ → ℕ → (ℕ → List ℕ) → Stage → Type 0
+StageKnows target now count sectors Begun = count ≡ now
+StageKnows target now count sectors (Sized length) = (length ≡ 512 * count) × (512 ≤ length)
+StageKnows target now count sectors (Walking w) =
+    IsWork target (file_of count sectors) (work_of w) × WalkKnows (tables_of (work_of w) (file_of count sectors)) target.capacity w
 
 pub record Knows (target : Target) (host count : ℕ) (sectors : ℕ → List ℕ) (stage : Stage) (d : Content) : Type 0 where
   pub seen : IsSeen host target.place count sectors d
-  pub holds : StageKnows target.capacity seen.file.size count sectors stage
+  pub holds : StageKnows target seen.file.size count sectors stage
 
--- A layer that was opened: its file is sound, its size is known, and the clusters of the file that have a count and aren't
--- free by its map are exactly those that it names.
-pub record IsOpened (capacity : ℕ) (file : File) (work : Work) : Type 0 where
-  pub sound : IsSound file capacity
-  pub header : HasHeader capacity file work
-  pub fits : MarksFile work.marks (tables_of work file)
-  pub named : (c : ℕ) → used_in (tables_of work file) work.marks c ≡ true → Named (tables_of work file) capacity c
-  pub noted : (c : ℕ) → Named (tables_of work file) capacity c → used_in (tables_of work file) work.marks c ≡ true
+-- A layer that was opened: its file is sound, and in its map those clusters are free that aren't used.
+pub record IsOpened (target : Target) (file : File) (work : Work) : Type 0 where
+  pub sound : IsSound file target.capacity
+  pub is_work : IsWork target file work
+  pub free : (c : ℕ) → c < room_of work.marks.free → free_by work.marks c ≡ not (is_used (tables_of work file) c)
 
 -- A refusal is the layer's first fault, or want of memory where its header is fine. `Vanished` never comes for a file that
 -- is there.
@@ -107,7 +71,7 @@ IsRefused target file _ = ⊥
 abbrev pub After : Target → ℕ → ℕ → (ℕ → List ℕ) → Turn Stage Work (Unit {0}) → Content → Type 0
 After target host count sectors turn e = MatchTurn turn
     (λ next. Knows target host count sectors next e)
-    (λ work. IsOpened target.capacity (file_of count sectors) work)
+    (λ work. IsOpened target (file_of count sectors) work)
     (λ _ refusal. IsRefused target (file_of count sectors) refusal)
 
 -- it isn't there, where a step says so
@@ -121,36 +85,22 @@ pub record Steps (target : Target) (host : ℕ) (stage : Stage) (turn : Turn Sta
   pub gone : MatchTurn turn (λ _. Unit {0}) (λ _. Unit {0}) (λ _ refusal. IsGone target refusal d)
   pub after : (count : ℕ) (sectors : ℕ → List ℕ) → Knows target host count sectors stage d → After target host count sectors turn e
 
--- a step without a call of the disk: whatever is there, it is as a step that changes nothing
-abbrev pub StepsAlone : Target → Stage → Turn Stage Work (Unit {0}) → Type 0
-StepsAlone target stage turn = (host : ℕ) (d : Content) → Steps target host stage turn d d
-
--- where the L1 entries below i are known, and a sector has those of the row of i, the next stage is as it has to be
-pub record PassesOn (target : Target) (work : Work) (i : ℕ) (row : List ℕ) (turn : Turn Stage Work (Unit {0})) : Type 0 where
-  pub gone : (d : Content) → MatchTurn turn (λ _. Unit {0}) (λ _. Unit {0}) (λ _ refusal. IsGone target refusal d)
-  pub after : (host count : ℕ) (sectors : ℕ → List ℕ) (d : Content) → IsSeen host target.place count sectors d
-      → IsChecking target.capacity (file_of count sectors) work (l1_position (tables_of work (file_of count sectors)) i)
-      → HasRow (tables_of work (file_of count sectors)) i row → After target host count sectors turn d
-
 -- where a file of this length has this header, of which the profile's rules hold, the next stage is as it has to be
-abbrev pub BeginsCounting : Target → ℕ → Header → Option Id → Turn Stage Work (Unit {0}) → Type 0
-BeginsCounting target length header parent turn = (host count : ℕ) (sectors : ℕ → List ℕ) (d : Content) → IsSeen host target.place count sectors d
+abbrev pub BeginsWork : Target → ℕ → Header → Option Id → Turn Stage Work (Unit {0}) → Type 0
+BeginsWork target length header parent turn = (host count : ℕ) (sectors : ℕ → List ℕ) (d : Content) → IsSeen host target.place count sectors d
     → length ≡ 512 * count → 512 ≤ length → header_of (head_of count sectors) ≡ Ok header → parent ≡ backing_id header (head_of count sectors) → After target host count sectors turn d
 
--- a fault ends the opening, and a name of a cluster that isn't free asks for its count
-abbrev pub objected : Target → Work → Objection → Turn Stage Work (Unit {0})
-objected target work (Fault fault) = Ended tt (LayerRefused target.volume fault)
-objected target work (objection.Taken place) = More (Taken work place None)
+-- what a sector of the tables leaves: the next stage, the layer, or its first fault
+abbrev pub turn_of : Target → Passed → Turn Stage Work (Unit {0})
+turn_of target (passed.More w) = More (Walking w)
+turn_of target (passed.Sound work) = Done work
+turn_of target (passed.Fault fault) = Ended tt (LayerRefused target.volume fault)
 
 -- the step that takes the map of clusters, which alone may want for memory
 abbrev pub takes_map : Stage → Bool
 takes_map Begun = false
 takes_map (Sized length) = true
-takes_map (Counting work next block) = false
-takes_map (Blocks work k) = false
-takes_map (L1 work i) = false
-takes_map (L2 work i table j row) = false
-takes_map (Taken work place block) = false
+takes_map (Walking w) = false
 
 -- a refusal of the layer itself, or want of memory where a step takes some
 abbrev pub IsOwnRefusal : Bool → Refusal → Type 0

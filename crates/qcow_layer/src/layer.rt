@@ -1,7 +1,8 @@
 // A layer that was opened.
 ghost use Rattle.std.specs.Prelude.{◌≡◌};
 
-use crate::work::{Target, Work};
+use crate::stages::Target;
+use layer_walk::Work;
 use qcow_format::Header;
 use sd_names::Id;
 

@@ -4,10 +4,9 @@ ghost use Rattle.shared_disk.specs.Calls.{Told};
 ghost use Rattle.shared_disk.specs.Step.{EndsOnlyBy, IsDiskRefusal, StepCounts};
 ghost use Rattle.qcow_layer.specs.Looking.{FewerLooks, FindsEntry, FindsTable, LooksOn};
 
-use crate::item::cluster_bytes;
 use crate::layer::Layer;
 use crate::reading::read_sector;
-use crate::sector::word_at;
+use layer_walk::{cluster_bytes, word_at};
 use qcow_format::{Entry, entry_of, table_place};
 use sd_names::{HostId, Turn};
 use shared_disk::SharedDisk;

@@ -5,8 +5,7 @@ ghost use Rattle.shared_disk.specs.Step.{EndsOnlyBy, StepCounts};
 ghost use Rattle.qcow_layer.specs.Stages.{IsOpeningRefusal};
 
 use crate::layer::Layer;
-use crate::stages::step_stage;
-use crate::work::{Stage, Target};
+use crate::stages::{Stage, Target, step_stage};
 use sd_names::{HostId, Id, Place, Refusal, Turn};
 use shared_disk::SharedDisk;
 use std::alloc::Global;
@@ -23,10 +22,16 @@ pub struct Opening {
 impl Opening {
     ghost use Rattle.qcow_layer.specs.Opening.{IsBegun, KeepsTarget, NearsEnd, OpensOn, may_lack_memory};
 
-    /// The opening of the layer of a volume, whose file stands at `place` and whose capacity is so many bytes. It takes
-    /// no memory yet, and never refuses.
-    pub fn begin(alloc: Global, volume: Id, place: Place, capacity: u64) -> Result<Opening, Refusal>
-        ensures { MatchResult result (λ opening. IsBegun opening volume place capacity) (λ _. ⊥) }
+    /// The opening of the layer of a volume, whose file stands at `place` and whose capacity is so many bytes, and
+    /// becomes at most `greatest` while the layer is open. It takes no memory yet, and never refuses.
+    pub fn begin(
+        alloc: Global,
+        volume: Id,
+        place: Place,
+        capacity: u64,
+        greatest: u64,
+    ) -> Result<Opening, Refusal>
+        ensures { MatchResult result (λ opening. IsBegun opening volume place capacity greatest) (λ _. ⊥) }
     {
         Ok(Opening {
             alloc,
@@ -34,6 +39,7 @@ impl Opening {
                 volume,
                 place,
                 capacity,
+                greatest,
             },
             stage: Stage::Begun,
         })

@@ -1,18 +1,69 @@
-// One step of an opening, by its stage.
-ghost use Rattle.std.specs.Prelude.{◌≡◌};
+// The stages of an opening, and one step.
+ghost use Rattle.std.specs.Prelude.{◌≡◌, ℕ, false};
 ghost use Rattle.shared_disk.specs.Calls.{Told};
+ghost use Rattle.shared_disk.specs.Refusal.{IsRisen};
 ghost use Rattle.shared_disk.specs.Step.{EndsOnlyBy, StepCounts};
 ghost use Rattle.qcow_layer.specs.Left.{Falls};
-ghost use Rattle.qcow_layer.specs.Stages.{IsOpeningRefusal, Steps, takes_map};
+ghost use Rattle.qcow_layer.specs.Stages.{IsOpeningRefusal, Steps, takes_map, turn_of};
 
-use crate::noting::step_counting;
+use crate::reading::read_sector;
 use crate::starting::{step_begun, step_sized};
-use crate::taken::step_taken;
-use crate::walking::{step_blocks, step_l1, step_l2};
-use crate::work::{Stage, Target, Work};
-use sd_names::{HostId, Turn};
+use layer_walk::{Passed, Walk, Work, take, wanted};
+use sd_names::{HostId, Id, Place, Refusal, Turn};
 use shared_disk::SharedDisk;
 use std::alloc::Global;
+
+/// Which layer is opened: the volume, its file, its capacity in bytes, and the greatest that it can get while it is open.
+#[derive(Clone, Copy, Debug)]
+pub(crate) struct Target {
+    pub(crate) volume: Id,
+    pub(crate) place: Place,
+    pub(crate) capacity: u64,
+    pub(crate) greatest: u64,
+}
+
+/// What is known of a layer that is opened.
+#[derive(Debug, Drop)]
+pub(crate) enum Stage {
+    /// Nothing.
+    Begun,
+    /// The file's length, in bytes.
+    Sized(u64),
+    /// The header, and a part of the tables.
+    Walking(Walk),
+}
+
+/// What comes of a sector is the next stage, the layer or its first fault.
+pub(crate) fn passed(target: Target, passed: Passed) -> Turn<Stage, Work, ()>
+    ensures turn { result ≡ turn_of target passed }
+    ensures cause { (before after : ℕ) → EndsOnlyBy (IsRisen before after) result }
+    ensures refusals { EndsOnlyBy (IsOpeningRefusal false) result }
+{
+    match passed {
+        Passed::More(walk) => Turn::More(Stage::Walking(walk)),
+        Passed::Sound(work) => Turn::Done(work),
+        Passed::Fault(fault) => Turn::Ended((), Refusal::LayerRefused(target.volume, fault)),
+    }
+}
+
+// One sector of the walk.
+fn step_walking<D: SharedDisk>(
+    target: Target,
+    host: HostId,
+    disk: &mut D,
+    walk: Walk,
+) -> Turn<Stage, Work, ()>
+    ensures counts { StepCounts (D.faults disk.old) (D.faults disk.new) (D.calls disk.old) (D.calls disk.new) result }
+    ensures refusals { EndsOnlyBy (IsOpeningRefusal false) result }
+    ensures falls { Falls (Stage.Walking walk) result }
+    ensures content { Told (D.content disk.old) (D.content disk.new) (Steps target host (Stage.Walking walk) result) }
+{
+    let at = wanted(&walk) / 512 * 512;
+    match read_sector(host, disk, target.place, at) {
+        Err(refusal) => Turn::Ended((), refusal),
+        Ok(sector) => passed(target, take(target.capacity, walk, sector)),
+    }
+}
 
 /// At most one call of the disk.
 pub(crate) fn step_stage<D: SharedDisk>(
@@ -30,12 +81,6 @@ pub(crate) fn step_stage<D: SharedDisk>(
     match stage {
         Stage::Begun => step_begun(target, host, disk),
         Stage::Sized(length) => step_sized(alloc, target, host, disk, length),
-        Stage::Counting(work, next, block) => {
-            step_counting(target, host, disk, work, next, block)
-        }
-        Stage::Blocks(work, k) => step_blocks(target, host, disk, work, k),
-        Stage::L1(work, i) => step_l1(target, host, disk, work, i),
-        Stage::L2(work, i, table, j, row) => { step_l2(target, host, disk, work, i, table, j, row) }
-        Stage::Taken(work, place, block) => step_taken(target, host, disk, work, place, block),
+        Stage::Walking(walk) => step_walking(target, host, disk, walk),
     }
 }

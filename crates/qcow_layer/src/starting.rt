@@ -1,4 +1,4 @@
-// The first steps of an opening: the file's length, then its header, then the counts of its clusters.
+// The first steps of an opening: the file's length, then its header, with which the walk begins.
 ghost use Rattle.std.specs.Prelude.{ℕ, ◌≡◌, ◌%◌, ◌^◌, ◌≤◌, ◌<◌, true, false};
 ghost use Rattle.shared_disk.specs.Calls.{Told};
 ghost use Rattle.sd_names.specs.Turn.{MatchTurn};
@@ -6,12 +6,11 @@ ghost use Rattle.shared_disk.specs.Content.{Content};
 ghost use Rattle.shared_disk.specs.Refusal.{IsRisen};
 ghost use Rattle.shared_disk.specs.Step.{EndsOnlyBy, StepCounts};
 ghost use Rattle.qcow_layer.specs.Left.{Falls};
-ghost use Rattle.qcow_layer.specs.Stages.{BeginsCounting, IsGone, IsOpeningRefusal, Steps};
+ghost use Rattle.qcow_layer.specs.Stages.{BeginsWork, IsGone, IsOpeningRefusal, Steps, roof};
 
-use crate::item::cluster_bytes;
-use crate::marks::Marks;
 use crate::reading::read_head;
-use crate::work::{Stage, Target, Work};
+use crate::stages::{Stage, Target, passed};
+use layer_walk::{Marks, Work, begin_walk, cluster_bytes};
 use qcow_format::{Header, backing_id};
 use sd_names::{HostId, Id, LayerFault, NoMemory, Refusal, Turn};
 use shared_disk::{SharedDisk, refusal_for};
@@ -39,8 +38,19 @@ pub(crate) fn step_begun<D: SharedDisk>(
     }
 }
 
-// The header is known: the counts of the file's clusters come next.
-fn begin_counting(
+// The length that a file has for a volume of a capacity, in bytes: what the capacity, an eighth of it and 2 MiB come to, in
+// whole units of 65,536 bytes.
+fn roof(capacity: u64) -> u64
+    ensures { result ≡ roof capacity }
+{
+    let length = capacity
+        .saturating_add(capacity / 8)
+        .saturating_add(2_097_152);
+    length / 65_536 * 65_536
+}
+
+// The header is known: the map of clusters is taken, and the walk begins.
+fn begin_work(
     alloc: Global,
     target: Target,
     length: u64,
@@ -56,7 +66,7 @@ fn begin_counting(
     ensures refusals { EndsOnlyBy (IsOpeningRefusal true) result }
     ensures gone { (d : Content) → MatchTurn result (λ _. Unit {0}) (λ _. Unit {0}) (λ _ refusal. IsGone target refusal d) }
     ensures falls { Falls (Stage.Sized length) result }
-    ensures next { BeginsCounting target length header parent result }
+    ensures next { BeginsWork target length header parent result }
 {
     if header.size < target.capacity {
         return Turn::Ended(
@@ -64,7 +74,7 @@ fn begin_counting(
             Refusal::LayerRefused(target.volume, LayerFault::Size(header.size)),
         );
     }
-    match Marks::new(alloc, length, cluster_bytes(&header)) {
+    match Marks::new(alloc, length, cluster_bytes(&header), roof(target.greatest)) {
         Err(NoMemory) => Turn::Ended((), Refusal::OutOfMemory),
         Ok(marks) => {
             let work = Work {
@@ -72,7 +82,7 @@ fn begin_counting(
                 parent,
                 marks,
             };
-            Turn::More(Stage::Counting(work, 0, None))
+            passed(target, begin_walk(work))
         }
     }
 }
@@ -96,7 +106,7 @@ pub(crate) fn step_sized<D: SharedDisk>(
             Err(fault) => Turn::Ended((), Refusal::LayerRefused(target.volume, fault)),
             Ok(header) => {
                 let parent = backing_id(&header, &head);
-                begin_counting(alloc, target, length, header, parent)
+                begin_work(alloc, target, length, header, parent)
             }
         },
     }

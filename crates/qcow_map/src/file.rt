@@ -53,7 +53,7 @@ pub(crate) fn open_layer(
     disk: &mut Memory,
     capacity: u64,
 ) -> Result<Layer, Refusal> {
-    let mut work = Opening::begin(alloc, Id::ZERO, FILE, capacity)?;
+    let mut work = Opening::begin(alloc, Id::ZERO, FILE, capacity, capacity)?;
     for _ in 0..u64::MAX {
         match work.step(host, disk) {
             Turn::More(next) => work = next,

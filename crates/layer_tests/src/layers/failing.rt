@@ -6,9 +6,10 @@ use qcow_layer::Looked;
 use sd_names::HostId;
 use std::test::Fail;
 
-// The calls of an opening: the file's length, its head, the refcount block's place, the counts, 8 sectors of the refcount
-// table, the sector of the L1 table, and two times the 8 sectors of a table that it names.
-const CALLS: u64 = 29;
+// The calls of an opening: the file's length, its head, 8 sectors of the refcount table, two for the count of its block, the
+// sector of the L1 table, two times the 8 sectors of a table that it names; then the counts, a sector of the refcount table
+// and 7 of the block for the 1,664 clusters of the map.
+const CALLS: u64 = 37;
 
 #[test]
 fn a_fault_in_each_call(rt: HostRuntime) -> Result<(), Fail> {

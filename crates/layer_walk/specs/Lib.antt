@@ -1,0 +1,10 @@
+pub mod Bits
+pub mod Checked
+pub mod Counting
+pub mod Items
+pub mod Known
+pub mod Left
+pub mod Marks
+pub mod Positions
+pub mod Steps
+pub mod Walking

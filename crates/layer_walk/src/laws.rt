@@ -1,0 +1,18 @@
+// Laws of walks: contracts of functions that do nothing.
+ghost use Rattle.std.specs.Prelude.{◌≡◌, ◌<◌, ℕ, Some};
+ghost use Rattle.image_model.specs.Layer.{Tables};
+ghost use Rattle.image_model.specs.Soundness.{names};
+ghost use Rattle.layer_walk.specs.Known.{WalkKnows};
+ghost use Rattle.layer_walk.specs.Left.{Antitone, Fits};
+ghost use Rattle.layer_walk.specs.Steps.{IsStop, named_from};
+ghost use Rattle.layer_walk.specs.declared.walk.Walk.{Walk};
+
+/// The number of sectors that a walk wants is that of the places which the header, the refcount table and the L1 table name,
+/// below the first position that has a fault by itself or names a place again. There is such a position, or all are behind
+/// each other without one; no two below it name one place.
+pub fn walks_fit()
+    ensures fits { (t : Tables) (capacity stop : ℕ) (walk : Walk) → IsStop t capacity stop → WalkKnows t capacity walk → Fits t.header (named_from t capacity stop) walk }
+    ensures stops { (t : Tables) (capacity : ℕ) → (stop : ℕ) × IsStop t capacity stop }
+    ensures fewer { (t : Tables) (capacity stop : ℕ) → Antitone (named_from t capacity stop) }
+    ensures differ { (t : Tables) (capacity stop a b place : ℕ) → IsStop t capacity stop → a < b → b < stop → names t capacity a ≡ Some place → names t capacity b ≡ Some place → ⊥ }
+{}

@@ -1,6 +1,0 @@
-use Rattle.std.proofs.Common.{None}
-use Rattle.qcow_layer.specs.Positions.{PassesEntries}
-use Rattle.qcow_layer.proofs.tables.check_entries.Given as goal
-
-abbrev pub invariant-loop-m : goal.invariant-loop-m
-invariant-loop-m l = PassesEntries l.fn.header l.fn.capacity l.fn.i l.fn.table l.fn.j l.m l.fn.sector l.fn.marks l.marks None
