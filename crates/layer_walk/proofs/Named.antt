@@ -190,7 +190,7 @@ module _ (t : Tables) (capacity stop : ℕ) (is : IsStop t capacity stop) where
       )
 
   counts_fit : (m : Marks) (fault : Option LayerFault) (next : Count) → CountsKnown t capacity m fault (Some next)
-      → CountsBlock (blocks_of t.header (named_from t capacity stop)) next × HeadFits t.header (named_from t capacity stop)
+      → CountsBlock t.header (blocks_of t.header (named_from t capacity stop)) next × HeadFits t.header (named_from t capacity stop)
   counts_fit m fault (count.Row k) known = (tt, head_fits known.at known.walked.checked.once (behind known.at known.walked.low))
     where
       behind : (at : ℕ) → before_mapping t ≤ at → head_end t ≤ at
@@ -205,7 +205,7 @@ module _ (t : Tables) (capacity stop : ℕ) (is : IsStop t capacity stop) where
       let name = block_name k spot.place (ap (own_fault t.file.size) (sym is) ∙ once.fine) known.counting.block known.counting.some in
       let less = block_less known.at k name.0 known.walked.checked.once lt inside (ap (λ (x : Item). x.name) is ∙ name.1) in
       let later = fewer_from t capacity stop (block_start t.header (k + 1)) (l1_start t.header 0) (omega (arith, split, inside)) in
-      (omega (arith, less, later), head_fits known.at known.walked.checked.once (omega (arith, known.walked.low, split)))
+      (λ within. omega (arith, less, later), head_fits known.at known.walked.checked.once (omega (arith, known.walked.low, split)))
 
   pub walk_fits : (w : Walk) → WalkKnows t capacity w → Fits t.header (named_from t capacity stop) w
   walk_fits (walk.Blocks work k) known = head_fits (block_position t k) known.0.blocks.checked.once (omega arith)

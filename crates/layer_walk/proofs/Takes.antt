@@ -33,7 +33,7 @@ in_rows : (total i : ℕ) → i < total → i / 64 < (total + 63) / 64
 in_rows total i lt = omega (arith, lt)
 
 -- behind the row of an entry and its blocks
-pub left_behind : (h : Header) (blocks : ℕ → ℕ) (k : ℕ) (next : Count) → 12 ≤ h.cluster_bits → FewerBehind blocks → CountsBlock blocks next → IsBehind h k next
+pub left_behind : (h : Header) (blocks : ℕ → ℕ) (k : ℕ) (next : Count) → 12 ≤ h.cluster_bits → FewerBehind blocks → CountsBlock h blocks next → IsBehind h k next
     → sectors_left h blocks next ≤ (table_rows h - (k / 64 + 1)) + block_parts h * blocks k × (k / 64 < table_rows h)
 left_behind h blocks k (Row i) low fewer counts is =
     let lt = in_rows (h.refcount_table_clusters * (2 ^ h.cluster_bits / 8)) i is.1 in
@@ -41,7 +41,7 @@ left_behind h blocks k (Row i) low fewer counts is =
     (omega (arith, is.0, le), omega (arith, is.0, lt))
 left_behind h blocks k (Block spot) low fewer counts is =
     let lt = in_rows (h.refcount_table_clusters * (2 ^ h.cluster_bits / 8)) spot.entry is.3 in
-    let le = one_less (block_parts h) (blocks (spot.entry + 1)) (blocks spot.entry) (blocks k) counts (fewer k spot.entry is.0) in
+    let le = one_less (block_parts h) (blocks (spot.entry + 1)) (blocks spot.entry) (blocks k) (counts is.3) (fewer k spot.entry is.0) in
     (omega (arith, is.1, is.2, le, parts_some h low), omega (arith, is.1, lt))
 
 pub row_falls : (h : Header) (k : ℕ) (result : Option Count) → 12 ≤ h.cluster_bits → ((count : Count) → result ≡ Some count → IsBehind h k count) → FewerSectors h (Row k) result

@@ -117,16 +117,16 @@ sectors_left h blocks (Block spot) = (table_rows h - (spot.entry / 64 + 1)) + bl
 abbrev pub FewerBehind : (ℕ → ℕ) → Type 0
 FewerBehind blocks = (a b : ℕ) → a ≤ b → blocks b ≤ blocks a
 
--- an entry whose block is wanted names one
-abbrev pub CountsBlock : (ℕ → ℕ) → Count → Type 0
-CountsBlock blocks (Row k) = Unit {0}
-CountsBlock blocks (Block spot) = blocks (spot.entry + 1) < blocks spot.entry
+-- an entry of the table whose block is wanted names one
+abbrev pub CountsBlock : Header → (ℕ → ℕ) → Count → Type 0
+CountsBlock h blocks (Row k) = Unit {0}
+CountsBlock h blocks (Block spot) = spot.entry < h.refcount_table_clusters * (2 ^ h.cluster_bits / 8) → blocks (spot.entry + 1) < blocks spot.entry
 
 -- whatever the disk tells, fewer sectors are left
 abbrev pub FewerSectors : Header → Count → Option Count → Type 0
 FewerSectors h count None = Unit {0}
 FewerSectors h count (Some next) =
-    (blocks : ℕ → ℕ) → FewerBehind blocks → CountsBlock blocks next → sectors_left h blocks next < sectors_left h blocks count
+    (blocks : ℕ → ℕ) → FewerBehind blocks → CountsBlock h blocks next → sectors_left h blocks next < sectors_left h blocks count
 
 -- ---- what a sector changes
 

@@ -93,7 +93,7 @@ Fits h tables (walk.Blocks work k) = HeadFits h tables
 Fits h tables (walk.Ask work ask) = ThenFits h tables ask.then
 Fits h tables (walk.L1 work i) = HeadFits h tables
 Fits h tables (walk.L2 work i table j row) = (tables (l1_start h (i + 1)) < tables (l1_start h i)) × HeadFits h tables
-Fits h tables (walk.Counts work fault count) = CountsBlock (blocks_of h tables) count × HeadFits h tables
+Fits h tables (walk.Counts work fault count) = CountsBlock h (blocks_of h tables) count × HeadFits h tables
 
 -- whatever the sector, fewer are left than so many
 abbrev pub BelowBy : Header → (Header → (ℕ → ℕ) → ℕ) → Passed → Type 0
