@@ -46,18 +46,19 @@ pub(crate) fn capacity_of(file: &[u8]) -> u64 {
     }
 }
 
-/// Opens the layer for a volume of a capacity. The end of the loop isn't reached: each step of an opening leaves fewer.
+/// Opens the layer for a volume of a capacity, and tells in how many steps. The end of the loop isn't reached: each step
+/// of an opening leaves fewer.
 pub(crate) fn open_layer(
     alloc: Global,
     host: HostId,
     disk: &mut Memory,
     capacity: u64,
-) -> Result<Layer, Refusal> {
+) -> Result<(Layer, u64), Refusal> {
     let mut work = Opening::begin(alloc, Id::ZERO, FILE, capacity, capacity)?;
-    for _ in 0..u64::MAX {
+    for done in 0..u64::MAX {
         match work.step(host, disk) {
             Turn::More(next) => work = next,
-            Turn::Done(layer) => return Ok(layer),
+            Turn::Done(layer) => return Ok((layer, done + 1)),
             Turn::Ended((), refusal) => return Err(refusal),
         }
     }

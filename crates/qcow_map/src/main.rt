@@ -1,5 +1,5 @@
 //! The program `qcow_map`: which clusters the qcow2 layer that comes on standard input holds, a line for each run of
-//! clusters that agree, or why the layer is refused.
+//! clusters that agree, and in how many steps it was opened, or why the layer is refused.
 #![tactic(auto)]
 
 mod file;
@@ -25,7 +25,8 @@ fn main(rt: HostRuntime) -> io::Result<()> {
     }
 }
 
-// Prints the runs of the layer in a file, or the refusal. All runs are known before the first is printed.
+// Prints the runs of the layer in a file and the number of steps of its opening, or the refusal. All runs are known before
+// the first is printed.
 fn print_map(rt: &HostRuntime, host: HostId, file: Vec<u8>) -> io::Result<()> {
     let mut file = file;
     if pad(&mut file).is_err() {
@@ -35,8 +36,8 @@ fn print_map(rt: &HostRuntime, host: HostId, file: Vec<u8>) -> io::Result<()> {
         Ok(disk) => disk,
         Err(_) => return print_refusal(rt, Refusal::OutOfMemory),
     };
-    let mut layer = match open_layer(rt.alloc(), host, &mut disk, capacity_of(&file)) {
-        Ok(layer) => layer,
+    let (mut layer, steps) = match open_layer(rt.alloc(), host, &mut disk, capacity_of(&file)) {
+        Ok(opened) => opened,
         Err(refusal) => return print_refusal(rt, refusal),
     };
     match runs_of(rt.alloc(), host, &mut disk, &mut layer) {
@@ -44,7 +45,7 @@ fn print_map(rt: &HostRuntime, host: HostId, file: Vec<u8>) -> io::Result<()> {
             for run in runs.iter() {
                 print_run(rt, run)?;
             }
-            Ok(())
+            println!(rt; "opened in {steps} steps")
         }
         Err(refusal) => print_refusal(rt, refusal),
     }
