@@ -6,6 +6,7 @@ pub mod Ends
 pub mod Entries
 pub mod Falls
 pub mod Heads
+pub mod Insides
 pub mod L1Walks
 pub mod L2Walks
 pub mod Moves

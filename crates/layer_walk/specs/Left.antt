@@ -95,6 +95,28 @@ Fits h tables (walk.L1 work i) = HeadFits h tables
 Fits h tables (walk.L2 work i table j row) = (tables (l1_start h (i + 1)) < tables (l1_start h i)) × HeadFits h tables
 Fits h tables (walk.Counts work fault count) = CountsBlock h (blocks_of h tables) count × HeadFits h tables
 
+-- ---- on every disk
+
+-- the entries that a walk looks behind are in their tables, and the clusters that are asked for among the header's
+abbrev pub ThenInside : Header → Then → Type 0
+ThenInside h (then.Entries k row) = k < h.refcount_table_clusters * (2 ^ h.cluster_bits / 8)
+ThenInside h (then.Head n end fault) = end ≤ head_count h
+
+abbrev pub IsInside : Header → Walk → Type 0
+IsInside h (walk.Blocks work k) = Unit {0}
+IsInside h (walk.Ask work ask) = ThenInside h ask.then
+IsInside h (walk.L1 work i) = Unit {0}
+IsInside h (walk.L2 work i table j row) = i < h.l1_size
+IsInside h (walk.Counts work fault count) = Unit {0}
+
+-- so they are behind a sector
+abbrev pub StaysInside : Work → Passed → Type 0
+StaysInside work passed = MatchPassed passed (λ next. IsInside work.header next) (λ _. Unit {0}) (λ _. Unit {0})
+
+-- how many positions there are from n on, of which each may name a cluster
+abbrev pub positions_from : Header → ℕ → ℕ
+positions_from h n = l1_start h h.l1_size - n
+
 -- whatever the sector, fewer are left than so many
 abbrev pub BelowBy : Header → (Header → (ℕ → ℕ) → ℕ) → Passed → Type 0
 BelowBy h bound passed = MatchPassed passed

@@ -1,7 +1,8 @@
 // Asking for the counts of the clusters that the header names, where a fault stands there or in the refcount table.
-ghost use Rattle.std.specs.Prelude.{◌+◌, ◌-◌, ◌*◌, ◌<◌};
+ghost use Rattle.std.specs.Prelude.{◌+◌, ◌-◌, ◌*◌, ◌<◌, ◌≤◌};
 ghost use Rattle.layer_walk.specs.Known.{HeadKnown, Keeps, Leads};
-ghost use Rattle.layer_walk.specs.Left.{Below};
+ghost use Rattle.layer_walk.specs.Positions.{head_count};
+ghost use Rattle.layer_walk.specs.Left.{Below, StaysInside};
 
 use crate::head::{head_clusters, head_item};
 use crate::walk::{Ask, Passed, Then, Walk};
@@ -12,6 +13,7 @@ use sd_names::LayerFault;
 /// layer's first.
 pub fn ask_head(work: Work, n: u64, end: u64, fault: LayerFault) -> Passed
     ensures keeps { Keeps work result }
+    ensures inside { end ≤ head_count work.header → StaysInside work result }
     ensures falls { Below work (λ h tables. 1 + 2 * (end - n)) result }
     ensures next { Leads work (λ t capacity. HeadKnown t capacity n end fault) result }
 {
@@ -34,6 +36,7 @@ pub fn ask_head(work: Work, n: u64, end: u64, fault: LayerFault) -> Passed
 /// The counts of those behind the one with index n, which has a count.
 pub fn ask_next(work: Work, n: u64, end: u64, fault: LayerFault) -> Passed
     ensures keeps { Keeps work result }
+    ensures inside { end ≤ head_count work.header → StaysInside work result }
     ensures falls { Below work (λ h tables. 1 + 2 * (end - (n + 1))) result }
     ensures next { Leads work (λ t capacity. HeadKnown t capacity (n + 1) end fault × (n < end)) result }
 {

@@ -1,6 +1,6 @@
 // The begin of the walk.
 ghost use Rattle.layer_walk.specs.Known.{Keeps, Leads};
-ghost use Rattle.layer_walk.specs.Left.{Below, begin_left};
+ghost use Rattle.layer_walk.specs.Left.{Below, StaysInside, begin_left};
 ghost use Rattle.layer_walk.specs.Walking.{StartKnown};
 
 use crate::ask::ask_head;
@@ -13,6 +13,7 @@ use crate::work::Work;
 /// names are looked at.
 pub fn begin_walk(work: Work) -> Passed
     ensures keeps { Keeps work result }
+    ensures inside { StaysInside work result }
     ensures falls { Below work (λ h tables. begin_left h tables) result }
     ensures next { Leads work (λ t capacity. StartKnown work.marks) result }
 {

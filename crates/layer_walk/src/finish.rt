@@ -1,7 +1,7 @@
 // What comes behind the walk over the tables: the counts, then a second walk where a cluster was noted.
 ghost use Rattle.std.specs.Prelude.{◌≡◌, ◌+◌, Some, None};
 ghost use Rattle.layer_walk.specs.Known.{AllKnown, CountsKnown, EndKnown, Keeps, Leads, StopKnown, TablesKnown};
-ghost use Rattle.layer_walk.specs.Left.{Below, behind_left, counts_left, l1_left};
+ghost use Rattle.layer_walk.specs.Left.{Below, StaysInside, behind_left, counts_left, l1_left};
 
 use crate::counting::begin_counts;
 use crate::head::check_head;
@@ -14,6 +14,7 @@ use sd_names::LayerFault;
 fn find_first(work: Work, place: u64) -> Passed
     requires { work.marks.noted ≡ Some place }
     ensures keeps { Keeps work result }
+    ensures inside { StaysInside work result }
     ensures falls { Below work (λ h tables. 1 + l1_left h tables 0) result }
     ensures next { Leads work (λ t capacity. TablesKnown t capacity work.marks 0) result }
 {
@@ -31,6 +32,7 @@ fn find_first(work: Work, place: u64) -> Passed
 /// All counts were looked at.
 pub fn finish_counts(work: Work, fault: Option<LayerFault>) -> Passed
     ensures keeps { Keeps work result }
+    ensures inside { StaysInside work result }
     ensures falls { Below work (λ h tables. 1 + l1_left h tables 0) result }
     ensures next { Leads work (λ t capacity. CountsKnown t capacity work.marks fault None) result }
 {
@@ -46,6 +48,7 @@ pub fn finish_counts(work: Work, fault: Option<LayerFault>) -> Passed
 // The tables have this fault, or none: the counts come next.
 fn start_counts(work: Work, fault: Option<LayerFault>) -> Passed
     ensures keeps { Keeps work result }
+    ensures inside { StaysInside work result }
     ensures falls { Below work (λ h tables. counts_left h tables) result }
     ensures next { Leads work (λ t capacity. EndKnown t capacity work.marks fault) result }
 {
@@ -60,6 +63,7 @@ fn start_counts(work: Work, fault: Option<LayerFault>) -> Passed
 /// The walk over L1 and L2 tables came to a fault. In the second walk it is the layer's first.
 pub fn stop_walk(work: Work, fault: LayerFault) -> Passed
     ensures keeps { Keeps work result }
+    ensures inside { StaysInside work result }
     ensures falls { Below work (λ h tables. behind_left h tables work.marks.noted) result }
     ensures next { Leads work (λ t capacity. StopKnown t capacity work.marks fault) result }
 {
@@ -72,6 +76,7 @@ pub fn stop_walk(work: Work, fault: LayerFault) -> Passed
 /// The walk over L1 and L2 tables came to their end. In the second walk it doesn't, unless the disk changes.
 pub fn end_walk(work: Work) -> Passed
     ensures keeps { Keeps work result }
+    ensures inside { StaysInside work result }
     ensures falls { Below work (λ h tables. behind_left h tables work.marks.noted) result }
     ensures next { Leads work (λ t capacity. AllKnown t capacity work.marks) result }
 {

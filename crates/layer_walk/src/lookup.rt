@@ -1,7 +1,7 @@
 // The count of one cluster, which is looked up directly: the refcount table's entry of its block, then the count.
 ghost use Rattle.std.specs.Prelude.{◌≡◌, ◌+◌, ◌*◌, ◌/◌, ◌^◌, ◌<◌, ◌≤◌};
 ghost use Rattle.layer_walk.specs.Known.{Keeps, Leads};
-ghost use Rattle.layer_walk.specs.Left.{Below, asks_left, then_left};
+ghost use Rattle.layer_walk.specs.Left.{Below, StaysInside, ThenInside, asks_left, then_left};
 ghost use Rattle.layer_walk.specs.Walking.{AskTakes, IsNear, asked_place, IsWithCount, IsWithoutCount};
 
 use crate::ask::{ask_head, ask_next};
@@ -43,6 +43,7 @@ pub fn wanted_count(header: &Header, ask: &Ask) -> u64
 // The cluster has the count 0.
 fn without_count(work: Work, ask: Ask) -> Passed
     ensures keeps { Keeps work result }
+    ensures inside { StaysInside work result }
     ensures falls { Below work (λ h tables. 1 + then_left h tables ask.then) result }
     ensures next { Leads work (λ t capacity. IsWithoutCount t capacity work.marks ask) result }
 {
@@ -59,6 +60,7 @@ fn without_count(work: Work, ask: Ask) -> Passed
 // The cluster has a count.
 fn with_count(work: Work, ask: Ask) -> Passed
     ensures keeps { Keeps work result }
+    ensures inside { ThenInside work.header ask.then → StaysInside work result }
     ensures falls { Below work (λ h tables. 1 + then_left h tables ask.then) result }
     ensures next { Leads work (λ t capacity. IsWithCount t capacity work.marks ask) result }
 {
@@ -80,6 +82,7 @@ fn with_count(work: Work, ask: Ask) -> Passed
 /// The sector has the number that was asked for.
 pub fn take_count(work: Work, ask: Ask, sector: &[u8; 512]) -> Passed
     ensures keeps { Keeps work result }
+    ensures inside { ThenInside work.header ask.then → StaysInside work result }
     ensures falls { Below work (λ h tables. asks_left ask.block + then_left h tables ask.then) result }
     ensures next { AskTakes work ask sector.now result }
 {

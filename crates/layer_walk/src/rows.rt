@@ -2,7 +2,7 @@
 ghost use Rattle.std.specs.Prelude.{◌≡◌, ◌+◌, ◌-◌, ◌*◌, ◌/◌, ◌%◌, ◌<◌, ◌^◌, ◌≤◌, max};
 ghost use Rattle.layer_walk.specs.Counting.{block_parts, table_rows};
 ghost use Rattle.layer_walk.specs.Known.{Keeps, L1Known, L1SectorKnown, Leads, LeadsAt, RowKnown, SectorKnown, TableKnown};
-ghost use Rattle.layer_walk.specs.Left.{Below, behind_left, blocks_of, first_left, l1_left, l1_rows, l1_start, rows_behind, rows_from};
+ghost use Rattle.layer_walk.specs.Left.{Below, StaysInside, behind_left, blocks_of, first_left, l1_left, l1_rows, l1_start, rows_behind, rows_from};
 ghost use Rattle.layer_walk.specs.Walking.{SectorOfTable};
 
 use crate::ask::ask_head;
@@ -17,6 +17,7 @@ use crate::work::Work;
 pub fn next_l1(work: Work, i: u32) -> Passed
     requires { i < work.header.l1_size → i % 64 ≡ 0 }
     ensures keeps { Keeps work result }
+    ensures inside { StaysInside work result }
     ensures falls { Below work (λ h tables. 1 + rows_behind h i + block_parts h * tables (l1_start h i) + behind_left h tables work.marks.noted) result }
     ensures next { Leads work (λ t capacity. L1Known t capacity work.marks i) result }
 {
@@ -29,6 +30,7 @@ pub fn next_l1(work: Work, i: u32) -> Passed
 /// The refcount table's entries from k on, the first of a sector.
 pub fn next_entries(work: Work, k: u64) -> Passed
     ensures keeps { Keeps work result }
+    ensures inside { StaysInside work result }
     ensures falls { Below work (λ h tables. 1 + (table_rows h - k / 64) + 2 * blocks_of h tables k + first_left h tables) result }
     ensures next { Leads work (λ t capacity. RowKnown t capacity work.marks k) result }
 {
@@ -41,6 +43,7 @@ pub fn next_entries(work: Work, k: u64) -> Passed
 /// The refcount table's entries from k on that stand in this sector, up to the first that names a block.
 pub fn pass_entries(work: Work, k: u64, row: [u8; 512]) -> Passed
     ensures keeps { Keeps work result }
+    ensures inside { StaysInside work result }
     ensures falls { Below work (λ h tables. rows_from h k + 2 * blocks_of h tables k + first_left h tables) result }
     ensures next { Leads work (λ t capacity. SectorKnown t capacity work.marks k row) result }
 {
@@ -71,6 +74,7 @@ pub fn pass_entries(work: Work, k: u64, row: [u8; 512]) -> Passed
 /// The L1 entries from i on that stand in this sector, up to the first that names an L2 table.
 pub fn pass_row(work: Work, i: u32, row: [u8; 512]) -> Passed
     ensures keeps { Keeps work result }
+    ensures inside { StaysInside work result }
     ensures falls { Below work (λ h tables. l1_left h tables i + behind_left h tables work.marks.noted) result }
     ensures next { Leads work (λ t capacity. L1SectorKnown t capacity work.marks i row) result }
 {
@@ -91,6 +95,7 @@ pub fn pass_row(work: Work, i: u32, row: [u8; 512]) -> Passed
 // What comes behind the L2 table that L1 entry i names.
 fn finish_table(work: Work, i: u32, row: [u8; 512]) -> Passed
     ensures keeps { Keeps work result }
+    ensures inside { StaysInside work result }
     ensures falls { Below work (λ h tables. 1 + (l1_rows h i - 1) + block_parts h * tables (l1_start h (i + 1)) + behind_left h tables work.marks.noted) result }
     ensures next { Leads work (λ t capacity. TableKnown t capacity work.marks i row) result }
 {
@@ -115,6 +120,7 @@ pub fn take_entries(
     sector: &[u8; 512],
 ) -> Passed
     ensures keeps { Keeps work result }
+    ensures inside { i < work.header.l1_size → StaysInside work result }
     ensures falls { Below work (λ h tables. max 1 (block_parts h - j / 64) + (l1_rows h i - 1) + block_parts h * tables (l1_start h (i + 1)) + behind_left h tables work.marks.noted) result }
     ensures next { LeadsAt capacity work (λ t. SectorOfTable t capacity work.marks i table j row sector.now) result }
 {

@@ -2,7 +2,7 @@
 ghost use Rattle.std.specs.Prelude.{◌+◌};
 ghost use Rattle.layer_walk.specs.Counting.{sectors_left};
 ghost use Rattle.layer_walk.specs.Known.{Keeps, work_of};
-ghost use Rattle.layer_walk.specs.Left.{Below, blocks_of, l1_left, walk_left};
+ghost use Rattle.layer_walk.specs.Left.{Below, IsInside, StaysInside, blocks_of, l1_left, walk_left};
 ghost use Rattle.layer_walk.specs.Walking.{CountsTake, IsNear, WalkTakes, place_of};
 
 use crate::count::Count;
@@ -17,6 +17,7 @@ use sd_names::LayerFault;
 // A sector of the refcount table, or of a block, in the pass over all counts.
 fn take_counted(work: Work, fault: Option<LayerFault>, count: Count, sector: &[u8; 512]) -> Passed
     ensures keeps { Keeps work result }
+    ensures inside { StaysInside work result }
     ensures falls { Below work (λ h tables. 1 + sectors_left h (blocks_of h tables) count + l1_left h tables 0) result }
     ensures next { CountsTake work fault count sector.now result }
 {
@@ -47,6 +48,7 @@ pub fn wanted(walk: &Walk) -> u64
 /// What the sector tells.
 pub fn take(capacity: u64, walk: Walk, sector: [u8; 512]) -> Passed
     ensures keeps { Keeps (work_of walk) result }
+    ensures inside { IsInside (work_of walk).header walk → StaysInside (work_of walk) result }
     ensures falls { Below (work_of walk) (λ h tables. walk_left h tables walk) result }
     ensures next { WalkTakes capacity walk sector result }
 {

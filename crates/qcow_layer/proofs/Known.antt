@@ -16,10 +16,11 @@ use Rattle.image_model.specs.File.{file_of, sector_in}
 use Rattle.image_model.specs.Soundness.{layer_header, layer_header_of}
 use Rattle.layer_walk.specs.Items.{layer_of}
 use Rattle.layer_walk.specs.Known.{work_of}
-use Rattle.layer_walk.specs.Left.{Fits}
+use Rattle.layer_walk.specs.Left.{Fits, IsInside, positions_from}
+use Rattle.layer_walk.proofs.Insides.{inside_fits}
 use Rattle.layer_walk.specs.Steps.{IsStop, named_from}
 use Rattle.layer_walk.proofs.Named.{walk_fits}
-use Rattle.qcow_layer.specs.Left.{IsOf}
+use Rattle.qcow_layer.specs.Left.{HasHead, IsOf, StageInside}
 use Rattle.qcow_layer.specs.Opening.{SameLength}
 use Rattle.qcow_layer.specs.Stages.{IsOpened, Knows, StageKnows}
 use Rattle.qcow_layer.specs.Seen.{IsSeen}
@@ -47,6 +48,12 @@ bounds target host count stop sectors (Walking w) h d knows is stops =
       subst (λ x. IsStop (layer_of x (file_of count sectors)) target.capacity stop → Fits x (named_from (layer_of x (file_of count sectors)) target.capacity stop) w) same
           (λ s. walk_fits (layer_of (work_of w).header (file_of count sectors)) target.capacity stop s w knows.holds.1) stops,
     )
+
+-- on every disk each position may be counted
+pub inside_bounds : (h : Header) (stage : Stage) → HasHead h stage → StageInside stage → IsOf h (positions_from h) stage
+inside_bounds h Begun same inside = tt
+inside_bounds h (Sized length) same inside = tt
+inside_bounds h (Walking w) same inside = (same, inside_fits h w (subst (λ x. IsInside x w) same inside))
 
 -- ---- what others may do
 

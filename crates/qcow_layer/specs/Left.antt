@@ -4,7 +4,7 @@ use Rattle.sd_names.specs.declared.turn.Turn.{Turn}
 use Rattle.sd_names.specs.Turn.{MatchTurn}
 use Rattle.qcow_format.specs.declared.header.Header.{Header}
 use Rattle.layer_walk.specs.Known.{work_of}
-use Rattle.layer_walk.specs.Left.{Antitone, Fits, begin_left, walk_left}
+use Rattle.layer_walk.specs.Left.{Antitone, Fits, IsInside, begin_left, walk_left}
 use Rattle.layer_walk.specs.declared.work.Work.{Work}
 use Rattle.qcow_layer.specs.declared.stages.Stage.{Stage}
 use Rattle.qcow_layer.specs.declared.stages.Stage.TheVariants.{Begun, Sized, Walking}
@@ -35,3 +35,15 @@ Nears stage next = (h : Header) (tables : ℕ → ℕ) → Antitone tables → I
 -- whatever the disk tells, a stage comes nearer to its end
 abbrev pub Falls : Stage → Turn Stage Work (Unit {0}) → Type 0
 Falls stage turn = MatchTurn turn (λ next. Nears stage next) (λ _. Unit {0}) (λ _ _. Unit {0})
+
+-- ---- on every disk
+
+-- what a stage looks behind is in its table
+abbrev pub StageInside : Stage → Type 0
+StageInside Begun = Unit {0}
+StageInside (Sized length) = Unit {0}
+StageInside (Walking w) = IsInside (work_of w).header w
+
+-- so is what the next one does
+abbrev pub StaysInside : Stage → Turn Stage Work (Unit {0}) → Type 0
+StaysInside stage turn = MatchTurn turn (λ next. StageInside stage → StageInside next) (λ _. Unit {0}) (λ _ _. Unit {0})

@@ -9,7 +9,7 @@ use Rattle.shared_disk.specs.Calls.{IsSame}
 use Rattle.qcow_format.specs.declared.header.Header.{Header}
 use Rattle.image_model.specs.File.{file_of}
 use Rattle.layer_walk.specs.Left.{Antitone}
-use Rattle.qcow_layer.specs.Left.{HasHead, IsOf, left_of}
+use Rattle.qcow_layer.specs.Left.{HasHead, IsOf, StageInside, left_of}
 use Rattle.qcow_layer.specs.Stages.{IsGone, IsOpened, IsRefused, Knows, takes_map}
 use Rattle.qcow_layer.specs.Seen.{IsSeen}
 use Rattle.layer_walk.specs.declared.work.Work.{Work}
@@ -43,6 +43,13 @@ parent_kept layer = layer.work.parent
 abbrev pub KnowsFile : Opening → ℕ → ℕ → (ℕ → List ℕ) → Content → Type 0
 KnowsFile o host count sectors d = Knows o.target host count sectors o.stage d
 
+-- what the opening looks behind is in its table, and the header is this, where it is known
+abbrev pub OpensInside : Opening → Type 0
+OpensInside o = StageInside o.stage
+
+abbrev pub OpensHeader : Header → Opening → Type 0
+OpensHeader h o = HasHead h o.stage
+
 -- an opening that was begun knows each file that the host sees, as long as it is
 pub record IsBegun (o : Opening) (id : Id) (at : Place) (bytes most : ℕ) : Type 0 where
   pub volume : (target_of o).volume ≡ id
@@ -50,6 +57,7 @@ pub record IsBegun (o : Opening) (id : Id) (at : Place) (bytes most : ℕ) : Typ
   pub capacity : (target_of o).capacity ≡ bytes
   pub greatest : (target_of o).greatest ≡ most
   pub left : (h : Header) (tables : ℕ → ℕ) → left_of h tables o.stage ≡ 2 * (2 ^ h.cluster_bits / 512 * tables 0) + 5
+  pub inside : OpensInside o
   pub knows : (host count : ℕ) (sectors : ℕ → List ℕ) (d : Content) → (seen : IsSeen host at count sectors d) → count ≡ seen.file.size → KnowsFile o host count sectors d
 
 -- the file's length is the same, unless it was asked already
@@ -83,6 +91,10 @@ NearsEnd o turn = MatchTurn turn
     (λ next. (h : Header) (tables : ℕ → ℕ) → Antitone tables → OpensFile h tables next → HasHead h o.stage × (steps_left h tables next < steps_left h tables o))
     (λ _. Unit {0})
     (λ _ _. Unit {0})
+
+-- what it looks behind stays in its table
+abbrev pub KeepsInside : Opening → Turn Opening Layer (Unit {0}) → Type 0
+KeepsInside o turn = MatchTurn turn (λ next. OpensInside o → OpensInside next) (λ _. Unit {0}) (λ _ _. Unit {0})
 
 -- A step changes nothing. Where the file is known it is known still, or the layer is sound, or the refusal has the first fault.
 pub record OpensOn (o : Opening) (host : ℕ) (turn : Turn Opening Layer (Unit {0})) (d e : Content) : Type 0 where

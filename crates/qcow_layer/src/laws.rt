@@ -9,11 +9,11 @@ ghost use Rattle.image_model.specs.Soundness.{layer_header, names};
 ghost use Rattle.shared_disk.specs.Crash.{DownLeaves, IsSettled};
 ghost use Rattle.shared_disk.specs.WellFormed.{IsWellFormed};
 ghost use Rattle.qcow_layer.specs.Knowing.{KnowsLayerOn, KnowsNumbers};
-ghost use Rattle.qcow_layer.specs.Opening.{HasSameLength, IsBegun, KnowsFile, OpensFile, steps_left, target_kept, target_of, work_kept};
+ghost use Rattle.qcow_layer.specs.Opening.{HasSameLength, IsBegun, KnowsFile, OpensFile, OpensHeader, OpensInside, steps_left, target_kept, target_of, work_kept};
 ghost use Rattle.sd_names.specs.declared.id.Id.{Id};
 ghost use Rattle.image_model.specs.Layer.{Tables};
 ghost use Rattle.layer_walk.specs.Items.{layer_of};
-ghost use Rattle.layer_walk.specs.Left.{Antitone};
+ghost use Rattle.layer_walk.specs.Left.{Antitone, positions_from};
 ghost use Rattle.layer_walk.specs.Steps.{IsStop, named_from};
 ghost use Rattle.qcow_layer.specs.declared.layer.Layer.{Layer};
 ghost use Rattle.qcow_layer.specs.Stages.{IsOpened};
@@ -35,6 +35,13 @@ pub fn known_files_bound_the_steps()
     ensures fewer { (t : Tables) (capacity stop : ℕ) → Antitone (named_from t capacity stop) }
     ensures begun { (o : Opening) (id : Id) (place : Place) (capacity most : ℕ) (h : Header) (tables : ℕ → ℕ) → IsBegun o id place capacity most
         → steps_left h tables o ≡ 2 * (2 ^ h.cluster_bits / 512 * tables 0) + 5 }
+{}
+
+/// An opening ends on every disk: one that was begun stays at entries that are in their tables, and so `falls` of its steps
+/// applies with the count that has each position.
+pub fn every_disk_bounds_the_steps()
+    ensures fits { (o : Opening) (h : Header) → OpensHeader h o → OpensInside o → OpensFile h (positions_from h) o }
+    ensures fewer { (h : Header) → Antitone (positions_from h) }
 {}
 
 /// What an opening knows stays known whatever else changes on the disk, while the host sees the same sectors in the file.

@@ -20,7 +20,7 @@ pub struct Opening {
 }
 
 impl Opening {
-    ghost use Rattle.qcow_layer.specs.Opening.{IsBegun, KeepsTarget, NearsEnd, OpensOn, may_lack_memory};
+    ghost use Rattle.qcow_layer.specs.Opening.{IsBegun, KeepsInside, KeepsTarget, NearsEnd, OpensOn, may_lack_memory};
 
     /// The opening of the layer of a volume, whose file stands at `place` and whose capacity is so many bytes, and
     /// becomes at most `greatest` while the layer is open. It takes no memory yet, and never refuses.
@@ -51,6 +51,7 @@ impl Opening {
         ensures counts { StepCounts (D.faults disk.old) (D.faults disk.new) (D.calls disk.old) (D.calls disk.new) result }
         ensures refusals { EndsOnlyBy (IsOpeningRefusal (may_lack_memory self)) result }
         ensures keeps { KeepsTarget self result }
+        ensures inside { KeepsInside self result }
         ensures falls { NearsEnd self result }
         ensures content { Told (D.content disk.old) (D.content disk.new) (OpensOn self host result) }
     {

@@ -3,7 +3,7 @@ ghost use Rattle.std.specs.Prelude.{◌≡◌, ℕ, false};
 ghost use Rattle.shared_disk.specs.Calls.{Told};
 ghost use Rattle.shared_disk.specs.Refusal.{IsRisen};
 ghost use Rattle.shared_disk.specs.Step.{EndsOnlyBy, StepCounts};
-ghost use Rattle.qcow_layer.specs.Left.{Falls};
+ghost use Rattle.qcow_layer.specs.Left.{Falls, StaysInside};
 ghost use Rattle.qcow_layer.specs.Stages.{IsOpeningRefusal, Steps, takes_map, turn_of};
 
 use crate::reading::read_sector;
@@ -55,6 +55,7 @@ fn step_walking<D: SharedDisk>(
 ) -> Turn<Stage, Work, ()>
     ensures counts { StepCounts (D.faults disk.old) (D.faults disk.new) (D.calls disk.old) (D.calls disk.new) result }
     ensures refusals { EndsOnlyBy (IsOpeningRefusal false) result }
+    ensures inside { StaysInside (Stage.Walking walk) result }
     ensures falls { Falls (Stage.Walking walk) result }
     ensures content { Told (D.content disk.old) (D.content disk.new) (Steps target host (Stage.Walking walk) result) }
 {
@@ -75,6 +76,7 @@ pub(crate) fn step_stage<D: SharedDisk>(
 ) -> Turn<Stage, Work, ()>
     ensures counts { StepCounts (D.faults disk.old) (D.faults disk.new) (D.calls disk.old) (D.calls disk.new) result }
     ensures refusals { EndsOnlyBy (IsOpeningRefusal (takes_map stage)) result }
+    ensures inside { StaysInside stage result }
     ensures falls { Falls stage result }
     ensures content { Told (D.content disk.old) (D.content disk.new) (Steps target host stage result) }
 {

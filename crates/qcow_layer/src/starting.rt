@@ -5,7 +5,7 @@ ghost use Rattle.sd_names.specs.Turn.{MatchTurn};
 ghost use Rattle.shared_disk.specs.Content.{Content};
 ghost use Rattle.shared_disk.specs.Refusal.{IsRisen};
 ghost use Rattle.shared_disk.specs.Step.{EndsOnlyBy, StepCounts};
-ghost use Rattle.qcow_layer.specs.Left.{Falls};
+ghost use Rattle.qcow_layer.specs.Left.{Falls, StaysInside};
 ghost use Rattle.qcow_layer.specs.Stages.{BeginsWork, IsGone, IsOpeningRefusal, Steps, roof};
 
 use crate::reading::read_head;
@@ -24,6 +24,7 @@ pub(crate) fn step_begun<D: SharedDisk>(
 ) -> Turn<Stage, Work, ()>
     ensures counts { StepCounts (D.faults disk.old) (D.faults disk.new) (D.calls disk.old) (D.calls disk.new) result }
     ensures refusals { EndsOnlyBy (IsOpeningRefusal false) result }
+    ensures inside { StaysInside Stage.Begun result }
     ensures falls { Falls Stage.Begun result }
     ensures content { Told (D.content disk.old) (D.content disk.new) (Steps target host Stage.Begun result) }
 {
@@ -65,6 +66,7 @@ fn begin_work(
     ensures cause { (before after : ℕ) → EndsOnlyBy (IsRisen before after) result }
     ensures refusals { EndsOnlyBy (IsOpeningRefusal true) result }
     ensures gone { (d : Content) → MatchTurn result (λ _. Unit {0}) (λ _. Unit {0}) (λ _ refusal. IsGone target refusal d) }
+    ensures inside { StaysInside (Stage.Sized length) result }
     ensures falls { Falls (Stage.Sized length) result }
     ensures next { BeginsWork target length header parent result }
 {
@@ -97,6 +99,7 @@ pub(crate) fn step_sized<D: SharedDisk>(
 ) -> Turn<Stage, Work, ()>
     ensures counts { StepCounts (D.faults disk.old) (D.faults disk.new) (D.calls disk.old) (D.calls disk.new) result }
     ensures refusals { EndsOnlyBy (IsOpeningRefusal true) result }
+    ensures inside { StaysInside (Stage.Sized length) result }
     ensures falls { Falls (Stage.Sized length) result }
     ensures content { Told (D.content disk.old) (D.content disk.new) (Steps target host (Stage.Sized length) result) }
 {

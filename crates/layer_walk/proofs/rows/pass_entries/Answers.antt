@@ -47,3 +47,11 @@ returns-in-Some-clause-falls c tables rule fits =
     let here = subst (λ n. c.args.k < n) c.table_entries.ensures c.if-k-table_entries.false in
     let room = row_within c.args.work.header.cluster_bits c.args.work.header.refcount_table_clusters c.args.k c.args.work.low here in
     block_fewer c.args.work.header tables c.args.k c.in-Some.block.index rule within.0 (omega (arith, within.0, within.1)) (omega (arith, within.1, room)) fits.0
+
+pub returns-in-Some-clause-inside : goal.returns-in-Some-clause-inside
+returns-in-Some-clause-inside c =
+    let passes = subst (λ o. PassesBlocks c.args.work.header c.args.k (c.args.k / 64 * 64 + 64) c.args.row c.args.work.marks c.pass_blocks.new.marks (Ok o)) c.in-Some.is c.in-Ok.ensures in
+    let within = passes.inside c.in-Some.block refl in
+    let here = subst (λ n. c.args.k < n) c.table_entries.ensures c.if-k-table_entries.false in
+    let room = row_within c.args.work.header.cluster_bits c.args.work.header.refcount_table_clusters c.args.k c.args.work.low here in
+    omega (arith, within.1, room)
