@@ -1,4 +1,7 @@
 pub mod FolderLemmas
+pub mod ToldLemmas
+pub mod AnyLemmas
+pub mod ProgressLemmas
 pub mod FaultLemmas
 pub mod ImageLemmas
 pub mod WriteLemmas

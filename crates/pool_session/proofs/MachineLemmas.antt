@@ -7,7 +7,9 @@ use Rattle.sd_names.specs.declared.refusal.Refusal.TheVariants.{DiskFault}
 use Rattle.sd_names.specs.declared.verb.Payload.TheVariants as payload
 use Rattle.script_lines.specs.declared.reply.Reply.TheVariants.{Done, Refused}
 use Rattle.shared_disk.specs.Content.{Content, own_of}
-use Rattle.shared_disk.specs.Calls.{Rose}
+use Rattle.sd_names.specs.declared.place.Place.{Place}
+use Rattle.shared_disk.specs.Calls.{IsSame, Rose, Told}
+use Rattle.raw_layer.specs.Raw.{ReadsFile}
 use Rattle.pool_session.specs.Answer.{Answer}
 use Rattle.pool_session.specs.Image.{HoldsFlat, SeenFlat, ReadsFlat, Mixed, laid}
 use Rattle.pool_session.specs.Machine.{State, Acts, Answers, Due, OnPart, Refuses, WritesImage, ReadsImage, Stands, StandsFor, act_of, due_by, due_of, part_refusal, state_after, same_id}
@@ -84,6 +86,13 @@ pub reads_front : (r : Result (Unit {0}) Refusal) (R : Refusal → Type 0) (at c
 reads_front r R at count flat part rest long h =
     let front : part ≡ take count (part ++ rest) = sym (take-append_seam part rest) ∙ ap (λ n. take n (part ++ rest)) long in
     subst (λ (xs : List ℕ). MatchResult r (λ _. ReadsFlat at flat xs) R) front h
+
+pub front_read : (r : Result (Unit {0}) Refusal) (before after : Option Content) (host count : ℕ) (place : Place) (at : ℕ) (part rest : List ℕ) → length part ≡ count
+    → MatchResult r (λ _. Told before after (λ d e. IsSame d e × ReadsFile d host place at part)) (λ _. Told before after IsSame)
+    → MatchResult r (λ _. Told before after (λ d e. IsSame d e × ReadsFile d host place at (take count (part ++ rest)))) (λ _. Told before after IsSame)
+front_read r before after host count place at part rest long h =
+    let front : part ≡ take count (part ++ rest) = sym (take-append_seam part rest) ∙ ap (λ n. take n (part ++ rest)) long in
+    subst (λ (xs : List ℕ). MatchResult r (λ _. Told before after (λ d e. IsSame d e × ReadsFile d host place at xs)) (λ _. Told before after IsSame)) front h
 
 -- The disk holds what is needed for what is due.
 abbrev pub Fits : Stage → Act → Type 0

@@ -8,13 +8,15 @@ use Rattle.script_loop.specs.declared.status.Status.TheVariants as status
 use Rattle.script_loop.proofs.Follows.{ends_follow, never_ends_short}
 use Rattle.shared_disk.specs.Content.{Content}
 use Rattle.script_lines.specs.Event.{event_of}
+use Rattle.pool_session.specs.AnyDisk.{RunsOn}
 use Rattle.pool_session.specs.Request.{is_built, is_silent}
 use Rattle.pool_session.specs.Machine.{State, Stands}
 use Rattle.pool_session.specs.Program.{IfRan}
-use Rattle.pool_session.specs.Run.{RunsEvent, Flat, FlatSays, flat_reply, FindsNone, SomeSays, some_reply}
+use Rattle.pool_session.specs.Run.{RunsEvent, Flat, FlatSays, flat_reply, FindsNone, Course, SomeSays, course_reply}
 use Rattle.pool_session.specs.RunsAt.{Reached, state_at}
 use Rattle.pool_session.specs.Session.{SessionSays, kept_reply}
 use Rattle.pool_session.specs.declared.session.Session.{Session}
+use Rattle.pool_session.specs.declared.stage.Stage.{Stage}
 
 -- something that holds, holds where a script was run
 pub if_ran : (status : Status) (P : Type 0) → P → IfRan status P
@@ -60,7 +62,7 @@ module _ {D : Type 0} (content : D → Option Content) (faults : D → ℕ) wher
   flat_step : (m : Session) (d : D) (n : Flat) (e : Unit {0}) (number : ℕ) (text : List ℕ) (outcome : LineOutcome) (m' : Session) (d' : D) → StandsAt m d n e → SessionSays content faults m d number text outcome m' d'
       → (n' : Flat) × (e' : Unit {0}) × FlatSays n e number text outcome n' e' × StandsAt m' d' n' e'
   flat_step m d n e number text outcome m' d' stands said =
-      let ran = said.2 stands.flat stands.refusals stands.reached in
+      let ran = said.3 stands.flat stands.refusals stands.reached in
       let t = state_at m'.machine.stage ran.0 (faults d') ran.1 in (
         record { state = t; reply = kept_reply m' },
         tt,
@@ -68,14 +70,24 @@ module _ {D : Type 0} (content : D → Option Content) (faults : D → ℕ) wher
         record { flat = ran.0; refusals = ran.1; reached = ran.2; state = refl; reply = refl },
       )
 
-  -- the reply that is kept, over the same disk
-  abbrev SameReply : Session → D → List ℕ → D → Type 0
-  SameReply m d n e = (kept_reply m ≡ n) × (d ≡ e)
+  -- the stage and the reply that is kept, over the same disk
+  abbrev SameCourse : Session → D → Course → D → Type 0
+  SameCourse m d n e = (kept_reply m ≡ n.reply) × (m.machine.stage ≡ n.stage) × (d ≡ e)
 
-  some_step : (m : Session) (d : D) (n : List ℕ) (e : D) (number : ℕ) (text : List ℕ) (outcome : LineOutcome) (m' : Session) (d' : D) → SameReply m d n e → SessionSays content faults m d number text outcome m' d'
-      → (n' : List ℕ) × (e' : D) × SomeSays content n e number text outcome n' e' × SameReply m' d' n' e'
+  some_step : (m : Session) (d : D) (n : Course) (e : D) (number : ℕ) (text : List ℕ) (outcome : LineOutcome) (m' : Session) (d' : D) → SameCourse m d n e → SessionSays content faults m d number text outcome m' d'
+      → (n' : Course) × (e' : D) × SomeSays content n e number text outcome n' e' × SameCourse m' d' n' e'
   some_step m d n e number text outcome m' d' same said =
-      (kept_reply m', d', (said.0, subst (λ (disk : D). FindsNone (event_of is_built text) outcome (content disk)) same.1 said.1), (refl, refl))
+      let event = event_of is_built text in
+      let ran = subst (λ (stage : Stage). RunsOn content stage d number event outcome (kept_reply m') m'.machine.stage d') same.1 said.2 in (
+        record { stage = m'.machine.stage; reply = kept_reply m' },
+        d',
+        (
+          said.0,
+          subst (λ (disk : D). FindsNone event outcome (content disk)) same.2 said.1,
+          subst (λ (disk : D). RunsOn content n.stage disk number event outcome (kept_reply m') m'.machine.stage d') same.2 ran,
+        ),
+        (refl, refl, refl),
+      )
 
   module _ (status : Status) (refused : ℕ) (m m' : Session) (d d' : D) (left left' given given' : Option (List ℕ)) (ends : Ends (SessionSays content faults) kept_reply status refused m d left left' given given' m' d') where
     -- a session as the flat machine runs it
@@ -94,8 +106,8 @@ module _ {D : Type 0} (content : D → Option Content) (faults : D → ℕ) wher
           next.2,
         )
 
-    -- a session over any disk, by its replies
-    pub some_ends : (reply : List ℕ) → kept_reply m ≡ reply → (reply' : List ℕ) × Ends (SomeSays content) some_reply status refused reply d left left' given given' reply' d'
-    some_ends reply same =
-        let next = ends_follow (SessionSays content faults) kept_reply (SomeSays content) some_reply SameReply some_step (λ m d n e same. same.0) m m' d d' reply d (same, refl) refused left left' given given' status ends in
-        (next.0, subst (λ (disk : D). Ends (SomeSays content) some_reply status refused reply d left left' given given' next.0 disk) (sym next.3.1) next.2)
+    -- a session over any disk, by its stages and replies
+    pub some_ends : (course : Course) → kept_reply m ≡ course.reply → m.machine.stage ≡ course.stage → (course' : Course) × Ends (SomeSays content) course_reply status refused course d left left' given given' course' d'
+    some_ends course same reached =
+        let next = ends_follow (SessionSays content faults) kept_reply (SomeSays content) course_reply SameCourse some_step (λ m d n e same. same.0) m m' d d' course d (same, reached, refl) refused left left' given given' status ends in
+        (next.0, subst (λ (disk : D). Ends (SomeSays content) course_reply status refused course d left left' given given' next.0 disk) (sym next.3.2) next.2)

@@ -33,6 +33,11 @@ abbrev pub IsOrderly : List Dir → List Dir → Type 0
 IsOrderly known [] = Unit {0}
 IsOrderly known (dir ∷ dirs) = (dir ≢ Root) × IsAmong known (parent_of dir) × (IsAmong known dir → ⊥) × IsOrderly (dir ∷ known) dirs
 
+-- of these folders none but the first stands in Root
+abbrev pub IsUnderFirst : List Dir → Type 0
+IsUnderFirst [] = Unit {0}
+IsUnderFirst (dir ∷ dirs) = (q : Dir) → IsAmong dirs q → parent_of q ≢ Root
+
 -- those of the first list, and then each of the second
 abbrev pub with_made : List Dir → List Dir → List Dir
 with_made known [] = known
@@ -53,3 +58,16 @@ HasPartOfDomain sd d = HasSome (Root ∷ []) (folders_of sd) d
 -- where the disk tells what it holds, the domain's folder isn't there
 abbrev pub HasNoFolder : Id → Option Content → Type 0
 HasNoFolder sd content = (d : Content) → content ≡ Some d → d.dir (Domain sd) ≡ false
+
+-- these folders weren't there and were made, and nothing else has changed
+pub record AreMade (dirs : List Dir) (d e : Content) : Type 0 where
+  pub absent : (q : Dir) → IsAmong dirs q → d.dir q ≡ false
+  pub there : (q : Dir) → IsAmong dirs q → e.dir q ≡ true
+  pub others : (q : Dir) → (IsAmong dirs q → ⊥) → e.dir q ≡ d.dir q
+  pub files : (q : Place) → e.file q ≡ d.file q
+
+-- some of these folders may have been made, and nothing else has changed: each that was there is there
+pub record MayBeMade (dirs : List Dir) (d e : Content) : Type 0 where
+  pub kept : (q : Dir) → d.dir q ≡ true → e.dir q ≡ true
+  pub others : (q : Dir) → (IsAmong dirs q → ⊥) → e.dir q ≡ d.dir q
+  pub files : (q : Place) → e.file q ≡ d.file q

@@ -1,6 +1,8 @@
 pub mod Answer
+pub mod AnyDisk
 pub mod Capacity
 pub mod Fault
+pub mod FileCalls
 pub mod Folders
 pub mod Image
 pub mod Machine

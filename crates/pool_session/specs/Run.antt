@@ -8,10 +8,13 @@ use Rattle.script_loop.specs.declared.runner.LineOutcome.{LineOutcome}
 use Rattle.script_loop.specs.declared.runner.LineOutcome.TheVariants as outcome
 use Rattle.shared_disk.specs.Content.{Content}
 use Rattle.pool_session.specs.Answer.{Answer, outcome_for}
+use Rattle.pool_session.specs.AnyDisk.{RunsOn}
 use Rattle.pool_session.specs.Folders.{HasNoFolder}
 use Rattle.pool_session.specs.Machine.{State, Answers}
 use Rattle.pool_session.specs.Request.{asked_of, is_built, is_silent}
 use Rattle.pool_session.specs.declared.request.Request.TheVariants.{MakePool}
+use Rattle.pool_session.specs.declared.stage.Stage.{Stage}
+use Rattle.pool_session.specs.declared.stage.Stage.TheVariants.{Off}
 
 -- From a state, the line of a number that is this event has this outcome and this reply, and leaves that state: a silent
 -- line changes nothing.
@@ -40,10 +43,20 @@ IsOutcome event came = MatchBool (is_silent event) (came ≡ outcome.Silent) ((c
 abbrev pub FindsNone : Event → LineOutcome → Option Content → Type 0
 FindsNone event came content = (sd : Id) → asked_of event ≡ Ok (MakePool sd, []) → came ≡ outcome.Done → HasNoFolder sd content
 
--- how any machine of a session runs a line, over a disk that tells this: nothing is said of the reply
-abbrev pub SomeSays : {D : Type 0} → (D → Option Content) → List ℕ → D → ℕ → List ℕ → LineOutcome → List ℕ → D → Type 0
+-- how far a session over any disk has come, and the reply that it gave last
+pub record Course : Type 0 where
+  pub stage : Stage
+  pub reply : List ℕ
+
+abbrev pub course_reply : Course → List ℕ
+course_reply course = course.reply
+
+-- the host is off, and there was no reply
+abbrev pub off : Course
+off = record { stage = Off; reply = [] }
+
+-- how a session runs a line over a disk that tells this, whatever the disk holds
+abbrev pub SomeSays : {D : Type 0} → (D → Option Content) → Course → D → ℕ → List ℕ → LineOutcome → Course → D → Type 0
 SomeSays content before d number line outcome after e =
     IsOutcome (event_of is_built line) outcome × FindsNone (event_of is_built line) outcome (content d)
-
-abbrev pub some_reply : List ℕ → List ℕ
-some_reply reply = reply
+    × RunsOn content before.stage d number (event_of is_built line) outcome after.reply after.stage e

@@ -17,8 +17,8 @@ pub record Reached (stage : Stage) (content : Option Content) (flat : ℕ → Li
   pub tells : content ≡ Some disk
   pub stands : Stands stage flat disk
 
--- The line of a number, which is this event, was run, from a stage, a content and a count of faults to others: where the disk tells what it holds, as the flat
--- machine runs it.
+-- The line of a number, which is this event, was run, from a stage, a content and a count of faults to others: where the disk
+-- tells what it holds, as the flat machine runs it.
 abbrev pub RunsAt : Stage → Stage → Option Content → Option Content → ℕ → ℕ → ℕ → Event → LineOutcome → List ℕ → Type 0
 RunsAt stage stage' content content' faults faults' number event outcome reply =
     (flat : ℕ → List ℕ) (refusals : Bool) → Reached stage content flat

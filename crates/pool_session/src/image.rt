@@ -1,10 +1,12 @@
 // The one image of the session: how its volume's file is made, read and written.
 ghost use lib.Pointwise.{pointwise};
-ghost use Rattle.std.specs.Prelude.{◌&&◌, nat_eq, ◌≡◌, ℕ, ◌+◌, ◌/◌, ◌≤◌, ◌^◌, ◌<◌, ◌⊎◌, List, true, None, Some, length, MatchResult};
+ghost use Rattle.std.specs.Prelude.{◌&&◌, nat_eq, Ok, IfOk, ◌≡◌, ℕ, ◌+◌, ◌/◌, ◌≤◌, ◌^◌, ◌<◌, ◌⊎◌, List, true, None, Some, length, MatchResult};
 ghost use Rattle.shared_disk.specs.Content.{Content, File, zero_sector};
-ghost use Rattle.shared_disk.specs.Calls.{IsAligned, IsPiece, IsPut, created, synced};
+ghost use Rattle.shared_disk.specs.Calls.{IsAligned, IsPiece, IsPut, IsSame, Syncs, Told, created, synced};
+ghost use Rattle.pool_session.specs.FileCalls.{FileMade, ImageMade, ImagePartlyMade, PartlyWritten, Written};
+ghost use Rattle.raw_layer.specs.Raw.{ReadsFile};
 ghost use Rattle.pool_session.specs.Capacity.{IsCapacity};
-ghost use Rattle.pool_session.specs.Fault.{IsFault};
+ghost use Rattle.pool_session.specs.Fault.{IsFault, SameOrFault};
 ghost use Rattle.pool_session.specs.Folders.{HasDomain};
 
 use crate::folders::make_dir;
@@ -42,10 +44,14 @@ impl Image {
     }
 
     /// Makes the image's folder and its volume's file of zeros, synced. Where the disk tells that it holds the folders of
-    /// the domain alone, it is refused only for a fault of the disk, and a part of it is made then.
+    /// the domain alone, it is refused only for a fault of the disk, and a part of it is made then. On every disk it is done
+    /// only where neither was there, and nothing else is changed.
     pub fn create<D: SharedDisk>(&self, host: HostId, disk: &mut D) -> Result<(), Refusal>
         requires { IsCapacity self.now.capacity }
         ensures count { D.faults disk.old ≤ D.faults disk.new }
+        ensures made { MatchResult result
+            (λ _. Told (D.content disk.old) (D.content disk.new) (ImageMade host self.now))
+            (λ refusal. Told (D.content disk.old) (D.content disk.new) (SameOrFault refusal (ImagePartlyMade host self.now))) }
         ensures content { (d : Content) → D.content disk.old ≡ Some d → HasDomain self.now.sd d
             → (e : Content) × (D.content disk.new ≡ Some e)
             × MatchResult result (λ _. HoldsFlat self.now (λ _. zero_sector) e) (λ refusal. IsFault (D.faults disk.old) (D.faults disk.new) refusal × HasPartOfImage host self.now e) }
@@ -54,7 +60,8 @@ impl Image {
         create_file(host, self.place(), self.capacity, disk)
     }
 
-    /// Reads a part from the offset `at` on, both in bytes and multiples of 512, inside the capacity.
+    /// Reads a part from the offset `at` on, both in bytes and multiples of 512, inside the capacity. On every disk it is done
+    /// only where the part holds what the file reads as, and the disk holds what it held.
     pub fn read<D: SharedDisk>(
         &self,
         host: HostId,
@@ -66,6 +73,9 @@ impl Image {
         requires piece { IsPiece (length part.old) }
         requires within { at + length part.old ≤ self.now.capacity }
         ensures count { D.faults disk.old ≤ D.faults disk.new }
+        ensures read { MatchResult result
+            (λ _. Told (D.content disk.old) (D.content disk.new) (λ d e. IsSame d e × ReadsFile d host (file_of self.now) (at / 512) part.new))
+            (λ _. Told (D.content disk.old) (D.content disk.new) IsSame) }
         ensures content { (d : Content) (flat : ℕ → List ℕ) → D.content disk.old ≡ Some d → HoldsFlat self.now flat d
             → (D.content disk.new ≡ Some d)
             × MatchResult result (λ _. ReadsFlat (at / 512) flat part.new) (λ refusal. IsFault (D.faults disk.old) (D.faults disk.new) refusal) }
@@ -79,7 +89,8 @@ impl Image {
     }
 
     /// Writes a part from the offset `at` on, both in bytes and multiples of 512, inside the capacity, and syncs it. Where
-    /// a fault of the disk cuts it, each sector of the part is old or new.
+    /// a fault of the disk cuts it, each sector of the part is old or new. On every disk it is done only where the disk has done
+    /// the write and the sync, and nothing else is changed.
     pub fn write<D: SharedDisk>(
         &self,
         host: HostId,
@@ -91,6 +102,9 @@ impl Image {
         requires piece { IsPiece (length part.now) }
         requires within { at + length part.now ≤ self.now.capacity }
         ensures count { D.faults disk.old ≤ D.faults disk.new }
+        ensures written { MatchResult result
+            (λ _. Told (D.content disk.old) (D.content disk.new) (Written host (file_of self.now) (at / 512) part.now))
+            (λ refusal. Told (D.content disk.old) (D.content disk.new) (SameOrFault refusal (PartlyWritten host (file_of self.now) (at / 512) part.now))) }
         ensures content { (d : Content) (flat : ℕ → List ℕ) → host ≡ 1 → D.content disk.old ≡ Some d → HoldsFlat self.now flat d
             → (e : Content) × (D.content disk.new ≡ Some e)
             × MatchResult result
@@ -120,6 +134,7 @@ fn create_file<D: SharedDisk>(
 ) -> Result<(), Refusal>
     requires { IsAligned size }
     ensures count { D.faults disk.old ≤ D.faults disk.new }
+    ensures made { IfOk result (λ _. Told (D.content disk.old) (D.content disk.new) (FileMade host place (size / 512))) }
     ensures content { (d : Content) → D.content disk.old ≡ Some d → d.dir place.dir ≡ true → d.file place ≡ None
         → (e : Content) × (D.content disk.new ≡ Some e)
         × MatchResult result
@@ -135,6 +150,7 @@ fn create_file<D: SharedDisk>(
 /// Syncs a file. Where the disk tells that it is there, it is refused only for a fault of the disk, which changes nothing.
 fn sync_file<D: SharedDisk>(host: HostId, place: Place, disk: &mut D) -> Result<(), Refusal>
     ensures count { D.faults disk.old ≤ D.faults disk.new }
+    ensures synced { IfOk result (λ _. Told (D.content disk.old) (D.content disk.new) (λ d e. Syncs d host place (Ok tt) e)) }
     ensures content { (d : Content) (f : File) → D.content disk.old ≡ Some d → d.file place ≡ Some f
         → (e : Content) × (D.content disk.new ≡ Some e)
         × MatchResult result (λ _. IsPut d place (Some (synced host f)) e) (λ refusal. IsFault (D.faults disk.old) (D.faults disk.new) refusal × (e ≡ d)) }

@@ -3,7 +3,9 @@ ghost use Rattle.std.specs.Prelude.{◌≡◌, ◌≤◌, ◌+◌, ◌/◌, ◌%
 ghost use Rattle.shared_disk.specs.Content.{Content};
 ghost use Rattle.shared_disk.specs.Calls.{IsAligned, IsPiece};
 ghost use Rattle.pool_session.specs.Fault.{IsFault};
-ghost use Rattle.pool_session.specs.Image.{HoldsFlat, ReadsFlat};
+ghost use Rattle.pool_session.specs.Image.{HoldsFlat, ReadsFlat, file_of};
+ghost use Rattle.shared_disk.specs.Calls.{IsSame, Told};
+ghost use Rattle.raw_layer.specs.Raw.{ReadsFile};
 ghost use Rattle.pool_session.specs.Machine.{part_refusal};
 
 use crate::folders::make_folders;
@@ -27,6 +29,7 @@ impl Machine {
     ghost use Rattle.sd_names.specs.declared.id.Id.{Id};
     ghost use Rattle.script_lines.specs.Event.{event_by};
     ghost use Rattle.pool_session.specs.Answer.{IsPrintable, answer_in, is_refusal};
+    ghost use Rattle.pool_session.specs.AnyDisk.{ActsOn, AnswersOn};
     ghost use Rattle.pool_session.specs.Capacity.{IsCapacity};
     ghost use Rattle.pool_session.specs.Folders.{HasNoFolder};
     ghost use Rattle.pool_session.specs.Machine.{due_of, ActsAt, AnswersAt, IsSoundAct};
@@ -46,12 +49,14 @@ impl Machine {
     }
 
     /// Answers a line that isn't silent. What a read hands out stands at the front of the room, which has 65,536 bytes. A
-    /// `make-pool` that is done has found no folder of its domain, whatever the disk holds.
+    /// `make-pool` that is done has found no folder of its domain, whatever the disk holds. What each line does over a disk that
+    /// holds anything, `any` says.
     pub fn answer<D: SharedDisk>(&mut self, line: &Line<'_>, room: &mut [u8], disk: &mut D) -> Reply
         requires room { length room.old ≡ 65536 }
         ensures printable { IsPrintable result room.new }
         ensures count { D.faults disk.old ≤ D.faults disk.new }
         ensures new { (sd : Id) → asked_of (event_by line.now) ≡ Ok (MakePool sd, []) → is_refusal result ≡ false → HasNoFolder sd (D.content disk.old) }
+        ensures any { AnswersOn D.content self.old.stage (asked_of (event_by line.now)) disk.old (answer_in result room.new) self.new.stage disk.new }
         ensures content { AnswersAt (D.content disk.old) (D.content disk.new) self.old.stage self.new.stage (D.faults disk.old) (D.faults disk.new)
             (asked_of (event_by line.now)) (answer_in result room.new) }
     {
@@ -82,6 +87,7 @@ impl Machine {
         ensures printable { IsPrintable result room.new }
         ensures count { D.faults disk.old ≤ D.faults disk.new }
         ensures new { (sd : Id) → act ≡ Act.MakePool sd → is_refusal result ≡ false → HasNoFolder sd (D.content disk.old) }
+        ensures any { ActsOn D.content act bytes.now disk.old (answer_in result room.new) self.new.stage disk.new }
         ensures content { ActsAt (D.content disk.old) (D.content disk.new) self.old.stage self.new.stage (D.faults disk.old) (D.faults disk.new)
             act bytes.now (answer_in result room.new) }
     {
@@ -112,6 +118,7 @@ impl Machine {
         ensures printable { (room : List ℕ) → IsPrintable result room }
         ensures count { D.faults disk.old ≤ D.faults disk.new }
         ensures new { is_refusal result ≡ false → HasNoFolder sd (D.content disk.old) }
+        ensures any { (bytes room : List ℕ) → ActsOn D.content (Act.MakePool sd) bytes disk.old (answer_in result room) self.new.stage disk.new }
         ensures content { (bytes room : List ℕ) → ActsAt (D.content disk.old) (D.content disk.new) self.old.stage self.new.stage (D.faults disk.old) (D.faults disk.new)
             (Act.MakePool sd) bytes (answer_in result room) }
     {
@@ -131,6 +138,7 @@ impl Machine {
         requires { IsCapacity image.capacity }
         ensures printable { (room : List ℕ) → IsPrintable result room }
         ensures count { D.faults disk.old ≤ D.faults disk.new }
+        ensures any { (bytes room : List ℕ) → ActsOn D.content (Act.Create image) bytes disk.old (answer_in result room) self.new.stage disk.new }
         ensures content { (bytes room : List ℕ) → ActsAt (D.content disk.old) (D.content disk.new) self.old.stage self.new.stage (D.faults disk.old) (D.faults disk.new)
             (Act.Create image) bytes (answer_in result room) }
     {
@@ -151,6 +159,7 @@ impl Machine {
         requires most { length part.now ≤ 65536 }
         ensures printable { (room : List ℕ) → IsPrintable result room }
         ensures count { D.faults disk.old ≤ D.faults disk.new }
+        ensures any { (room : List ℕ) → ActsOn D.content (Act.Write image at) part.now disk.old (answer_in result room) self.new.stage disk.new }
         ensures content { (room : List ℕ) → ActsAt (D.content disk.old) (D.content disk.new) self.old.stage self.new.stage (D.faults disk.old) (D.faults disk.new)
             (Act.Write image at) part.now (answer_in result room) }
     {
@@ -183,6 +192,7 @@ impl Machine {
         requires room { length room.old ≡ 65536 }
         ensures printable { IsPrintable result room.new }
         ensures count { D.faults disk.old ≤ D.faults disk.new }
+        ensures any { (bytes : List ℕ) → ActsOn D.content (Act.Read image at count) bytes disk.old (answer_in result room.new) self.new.stage disk.new }
         ensures content { (bytes : List ℕ) → ActsAt (D.content disk.old) (D.content disk.new) self.old.stage self.new.stage (D.faults disk.old) (D.faults disk.new)
             (Act.Read image at count) bytes (answer_in result room.new) }
     {
@@ -218,6 +228,9 @@ fn read_front<D: SharedDisk>(
     requires within { at + count ≤ image.now.capacity }
     requires room { count ≤ length room.old }
     ensures count { D.faults disk.old ≤ D.faults disk.new }
+    ensures read { MatchResult result
+        (λ _. Told (D.content disk.old) (D.content disk.new) (λ d e. IsSame d e × ReadsFile d host (file_of image.now) (at / 512) (take count room.new)))
+        (λ _. Told (D.content disk.old) (D.content disk.new) IsSame) }
     ensures content { (d : Content) (flat : ℕ → List ℕ) → D.content disk.old ≡ Some d → HoldsFlat image.now flat d
         → (D.content disk.new ≡ Some d)
         × MatchResult result (λ _. ReadsFlat (at / 512) flat (take count room.new)) (λ refusal. IsFault (D.faults disk.old) (D.faults disk.new) refusal) }

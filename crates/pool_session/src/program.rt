@@ -1,5 +1,5 @@
 // The program's one public call.
-ghost use Rattle.std.specs.Prelude.{◌≡◌, ◌≢◌, ◌⊎◌, ℕ, List, [], Option, map, Some, None};
+ghost use Rattle.std.specs.Prelude.{◌≡◌, ◌≢◌, ◌⊎◌, ℕ, List, Option, map, Some, None};
 ghost use Rattle.shared_disk.specs.Content.{Content, IsEmpty};
 ghost use Rattle.command_words.specs.Asked.{Asked, asked_by, run, session};
 ghost use Rattle.command_words.specs.Words.{asked};
@@ -7,7 +7,7 @@ ghost use Rattle.script_loop.specs.Ends.{Ends, SourceFaults, SinkFaults};
 ghost use Rattle.script_loop.specs.Script.{script_of};
 ghost use Rattle.pool_session.specs.Program.{Gives, IfRan, TakesAtMost, start};
 ghost use Rattle.pool_session.specs.Machine.{Stands};
-ghost use Rattle.pool_session.specs.Run.{Flat, FlatSays, flat_reply, SomeSays, some_reply};
+ghost use Rattle.pool_session.specs.Run.{Course, Flat, FlatSays, SomeSays, course_reply, flat_reply, off};
 
 use crate::session::Session;
 use command_words::{Command, read_words};
@@ -21,8 +21,9 @@ use std::alloc::Global;
 /// leaves the source as it is.
 ///
 /// The script is run as [`run_script`] says: line by line as it comes, each reply before more is read, up to 67,108,864 bytes.
-/// Where the disk tells that it is empty at first, the replies are those of a flat machine (`ends`). On every disk a folder that
-/// is there isn't taken for made (`runs`).
+/// Where the disk tells that it is empty at first, the replies are those of a flat machine (`ends`). On every disk, whatever it
+/// holds at first, `runs` says by the line what is answered and what is left of what the disk tells: a verb is done only where the
+/// disk has done its calls, a folder or file that is there isn't taken for made, and what the line isn't about stays.
 ///
 /// `moment` is the time in seconds since 1970, where the words give none; no line needs it yet. The memory that a session
 /// needs is taken from `alloc` before the first line.
@@ -44,9 +45,9 @@ pub fn vdsm<'a, S: Source, K: Sink, D: SharedDisk>(
     ensures source_faults { SourceFaults result (S.faults source.old) (S.faults source.new) }
     ensures sink_faults { SinkFaults result (K.faults sink.old) (K.faults sink.new) }
     ensures bounded { (input : List ℕ) → S.left source.old ≡ Some input → TakesAtMost input (S.left source.new) }
-    ensures runs { IfRan result ((left : Option (List ℕ)) × (left' : Option (List ℕ)) × (refused : ℕ) × (reply : List ℕ)
+    ensures runs { IfRan result ((left : Option (List ℕ)) × (left' : Option (List ℕ)) × (refused : ℕ) × (course : Course)
         × Gives (asked (map (λ word. word.now) words.now)) (S.left source.old) (S.left source.new) left left'
-        × Ends (SomeSays D.content) some_reply result refused [] disk.old left left' (K.given sink.old) (K.given sink.new) reply disk.new) }
+        × Ends (SomeSays D.content) course_reply result refused off disk.old left left' (K.given sink.old) (K.given sink.new) course disk.new) }
     ensures ends { (d : Content) → D.content disk.old ≡ Some d → IsEmpty d → IfRan result ((left : Option (List ℕ)) × (left' : Option (List ℕ)) × (refused : ℕ) × (e : Content) × (t : Flat)
         × Gives (asked (map (λ word. word.now) words.now)) (S.left source.old) (S.left source.new) left left'
         × (D.content disk.new ≡ Some e) × Stands t.state.stage t.state.flat e × (t.state.faults ≡ D.faults disk.new)
@@ -76,9 +77,9 @@ fn run_command<S: Source, K: Sink, D: SharedDisk>(
     ensures source_faults { SourceFaults result (S.faults source.old) (S.faults source.new) }
     ensures sink_faults { SinkFaults result (K.faults sink.old) (K.faults sink.new) }
     ensures bounded { (input : List ℕ) → S.left source.old ≡ Some input → TakesAtMost input (S.left source.new) }
-    ensures runs { IfRan result ((left : Option (List ℕ)) × (left' : Option (List ℕ)) × (refused : ℕ) × (reply : List ℕ)
+    ensures runs { IfRan result ((left : Option (List ℕ)) × (left' : Option (List ℕ)) × (refused : ℕ) × (course : Course)
         × Gives (Some (asked_by command.now)) (S.left source.old) (S.left source.new) left left'
-        × Ends (SomeSays D.content) some_reply result refused [] disk.old left left' (K.given sink.old) (K.given sink.new) reply disk.new) }
+        × Ends (SomeSays D.content) course_reply result refused off disk.old left left' (K.given sink.old) (K.given sink.new) course disk.new) }
     ensures ends { (d : Content) → D.content disk.old ≡ Some d → IsEmpty d → IfRan result ((left : Option (List ℕ)) × (left' : Option (List ℕ)) × (refused : ℕ) × (e : Content) × (t : Flat)
         × Gives (Some (asked_by command.now)) (S.left source.old) (S.left source.new) left left'
         × (D.content disk.new ≡ Some e) × Stands t.state.stage t.state.flat e × (t.state.faults ≡ D.faults disk.new)
@@ -100,9 +101,9 @@ fn run_lines<K: Sink, D: SharedDisk>(
     ensures others { (result ≢ Status.Words) × (result ≢ Status.ReadFault) }
     ensures untouched { result ≡ Status.Memory → (sink.new ≡ sink.old) × (disk.new ≡ disk.old) }
     ensures sink_faults { SinkFaults result (K.faults sink.old) (K.faults sink.new) }
-    ensures runs { IfRan result ((left : Option (List ℕ)) × (left' : Option (List ℕ)) × (refused : ℕ) × (reply : List ℕ)
+    ensures runs { IfRan result ((left : Option (List ℕ)) × (left' : Option (List ℕ)) × (refused : ℕ) × (course : Course)
         × (left ≡ Some (script_of (map (λ line. line.now) lines.now)))
-        × Ends (SomeSays D.content) some_reply result refused [] disk.old left left' (K.given sink.old) (K.given sink.new) reply disk.new) }
+        × Ends (SomeSays D.content) course_reply result refused off disk.old left left' (K.given sink.old) (K.given sink.new) course disk.new) }
     ensures ends { (d : Content) → D.content disk.old ≡ Some d → IsEmpty d → IfRan result ((left : Option (List ℕ)) × (left' : Option (List ℕ)) × (refused : ℕ) × (e : Content) × (t : Flat)
         × (left ≡ Some (script_of (map (λ line. line.now) lines.now)))
         × (D.content disk.new ≡ Some e) × Stands t.state.stage t.state.flat e × (t.state.faults ≡ D.faults disk.new)
@@ -126,8 +127,8 @@ fn run_session<S: Source, K: Sink, D: SharedDisk>(
     ensures source_faults { SourceFaults result (S.faults source.old) (S.faults source.new) }
     ensures sink_faults { SinkFaults result (K.faults sink.old) (K.faults sink.new) }
     ensures bounded { (input : List ℕ) → S.left source.old ≡ Some input → TakesAtMost input (S.left source.new) }
-    ensures runs { IfRan result ((refused : ℕ) × (reply : List ℕ)
-        × Ends (SomeSays D.content) some_reply result refused [] disk.old (S.left source.old) (S.left source.new) (K.given sink.old) (K.given sink.new) reply disk.new) }
+    ensures runs { IfRan result ((refused : ℕ) × (course : Course)
+        × Ends (SomeSays D.content) course_reply result refused off disk.old (S.left source.old) (S.left source.new) (K.given sink.old) (K.given sink.new) course disk.new) }
     ensures ends { (d : Content) → D.content disk.old ≡ Some d → IsEmpty d → IfRan result ((refused : ℕ) × (e : Content) × (t : Flat)
         × (D.content disk.new ≡ Some e) × Stands t.state.stage t.state.flat e × (t.state.faults ≡ D.faults disk.new)
         × Ends FlatSays flat_reply result refused (start (D.faults disk.old)) tt (S.left source.old) (S.left source.new) (K.given sink.old) (K.given sink.new) t tt) }

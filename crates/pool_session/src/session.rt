@@ -2,6 +2,7 @@
 ghost use Rattle.std.specs.Prelude.{◌≡◌, ◌≤◌, ℕ, List, [], false, length, vec_len, vec_capacity};
 ghost use Rattle.script_lines.specs.Event.{event_by, event_of};
 ghost use Rattle.pool_session.specs.Answer.{outcome_for, read_count, IsPrintable};
+ghost use Rattle.pool_session.specs.AnyDisk.{RunsOn};
 ghost use Rattle.pool_session.specs.Request.{is_built, is_silent};
 ghost use Rattle.pool_session.specs.Run.{IsOutcome, FindsNone};
 ghost use Rattle.pool_session.specs.RunsAt.{RunsAt};
@@ -95,6 +96,7 @@ fn run_line<D: SharedDisk>(
     ensures reserved { 200000 ≤ vec_capacity reply.new }
     ensures outcome { IsOutcome (event_of is_built text.now) result }
     ensures new { FindsNone (event_of is_built text.now) result (D.content disk.old) }
+    ensures any { RunsOn D.content machine.old.stage disk.old number (event_of is_built text.now) result reply.new.items machine.new.stage disk.new }
     ensures ran { RunsAt machine.old.stage machine.new.stage (D.content disk.old) (D.content disk.new) (D.faults disk.old) (D.faults disk.new) number (event_of is_built text.now) result reply.new.items }
 {
     let line = event_of(text, is_built, written);
@@ -128,6 +130,7 @@ fn answer<D: SharedDisk>(
     ensures reserved { 200000 ≤ vec_capacity reply.new }
     ensures outcome { IsOutcome (event_by line.now) result }
     ensures new { FindsNone (event_by line.now) result (D.content disk.old) }
+    ensures any { RunsOn D.content machine.old.stage disk.old number (event_by line.now) result reply.new.items machine.new.stage disk.new }
     ensures answered { RunsAt machine.old.stage machine.new.stage (D.content disk.old) (D.content disk.new) (D.faults disk.old) (D.faults disk.new) number (event_by line.now) result reply.new.items }
 {
     let answer = machine.answer(line, room, disk);

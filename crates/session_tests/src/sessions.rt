@@ -429,3 +429,31 @@ fn the_most_input(rt: HostRuntime) -> Result<(), Fail> {
     }
     Ok(())
 }
+
+// A line of 200,000 bytes is read, and one of more isn't; the line behind it is run.
+#[test]
+fn the_longest_line(rt: HostRuntime) -> Result<(), Fail> {
+    let alloc = rt.alloc();
+    let table: [(usize, &str); 2] = [
+        (200_000, "1 refused 10 BadLine\n2 ok\n"),
+        (200_001, "1 refused 11 LineTooLong\n2 ok\n"),
+    ];
+    for (length, replies) in table {
+        let mut disk = sound_disk(alloc)?;
+        let mut input = Vec::from_elem(alloc, b'x', length)?;
+        input.extend_from_slice(b"\n1 boot\n")?;
+        assert!(rt;
+            ends(
+                alloc,
+                &mut disk,
+                &["session"],
+                input,
+                SOUND,
+                Status::Refused,
+                replies.as_bytes()
+            )?,
+            "{length}"
+        );
+    }
+    Ok(())
+}

@@ -1,7 +1,13 @@
 use Rattle.std.proofs.Common.{refl}
 use Rattle.pool_session.proofs.FaultLemmas.{fault_told}
 use Rattle.pool_session.proofs.FolderLemmas.{dir_failed, just_made}
+use Rattle.pool_session.proofs.AnyLemmas.{dir_refused}
 use Rattle.pool_session.proofs.folders.make_dir.Goals as goal
+
+pub returns-in-Err-clause-refused : goal.returns-in-Err-clause-refused
+returns-in-Err-clause-refused g c d tells =
+    let call = c.in-Err.ensures.call d tells in
+    (call.0, call.1, rw (c.refusal_for.ensures) (dir_refused d call.0 c.args.dir c.in-Err.answer (g.D.SharedDisk.faults c.make_dir.new.self) call.2))
 
 pub returns-in-Ok-clause-content : goal.returns-in-Ok-clause-content
 returns-in-Ok-clause-content g c d dirs tells has above new =

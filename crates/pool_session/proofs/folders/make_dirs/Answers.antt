@@ -3,6 +3,7 @@ use Rattle.sd_names.specs.declared.place.Dir.{Dir}
 use Rattle.pool_session.specs.Folders.{HasSome, IsAmong, with_made}
 use Rattle.pool_session.proofs.FaultLemmas.{fault_since}
 use Rattle.pool_session.proofs.FolderLemmas.{among_rest, left_at, not_gone, some_one}
+use Rattle.pool_session.proofs.ProgressLemmas.{Progress, Rooted, one_made, one_rooted, next_refused}
 use Rattle.pool_session.proofs.folders.make_dirs.Goals as goal
 
 pub loop-dir-preserved : goal.loop-dir-preserved
@@ -27,6 +28,12 @@ loop-dir-preserved g c =
             λ q absent. before.2 q (not_gone before.0 after.0 _ q (before.0.dir q) refl after.2 absent),
             λ rest q among. before.3 (λ p among_left. among_rest d before.0 after.0 _ _ p after.2 before.2 rest (subst (λ (dirs : List Dir). IsAmong dirs p) left among_left)) q among,
           ),
+      λ d tells.
+          let before = c.loop-dir.invariant.7 d tells in
+          let after = c.in_ok-make_dir.ensures.made before.0 before.1 in
+          let progress = subst (λ (dirs : List Dir). Progress c.args.dirs.now dirs d before.0) left before.2 in
+          let rooted = subst (λ (dirs : List Dir). Rooted c.args.dirs.now known dirs d before.0) left before.3 in
+          (after.0, after.1, one_made c.args.dirs.now _ _ d before.0 after.0 progress after.2, one_rooted c.args.dirs.now known _ _ d before.0 after.0 rooted orderly.2 c.requires.under after.2),
     )
 
 pub returns-in_err-make_dir-clause-content : goal.returns-in_err-make_dir-clause-content
@@ -45,3 +52,20 @@ returns-in_err-make_dir-clause-content g c d tells root =
         some,
       ),
     )
+
+pub returns-in_err-make_dir-clause-made : goal.returns-in_err-make_dir-clause-made
+returns-in_err-make_dir-clause-made g c =
+    let known = c.loop-dir.invariant.0 in
+    let well = g.met.D.SharedDisk.well_formed in
+    let left = left_at c.args.dirs.now c.loop-dir.dir-index (omega arith) in
+    let orderly = rw left at c.loop-dir.invariant.1 in
+    let is : c.from_residual.result ≡ Err c.in_err-make_dir.field-0.0 = search rules in
+    rw is (λ d tells.
+    let before = c.loop-dir.invariant.7 d tells in
+    let after = c.in_err-make_dir.ensures.refused before.0 before.1 in
+    let progress = subst (λ (dirs : List Dir). Progress c.args.dirs.now dirs d before.0) left before.2 in
+    let rooted = subst (λ (dirs : List Dir). Rooted c.args.dirs.now known dirs d before.0) left before.3 in (
+      after.0,
+      after.1,
+      next_refused c.args.dirs.now known _ _ d before.0 after.0 rooted orderly.2 c.in_err-make_dir.field-0.0 (well c.args.disk.now d tells) (well c.loop-dir.disk before.0 before.1) orderly.1 progress after.2,
+    ))

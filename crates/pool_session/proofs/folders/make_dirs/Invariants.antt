@@ -3,6 +3,7 @@ use Rattle.sd_names.specs.declared.place.Dir.{Dir}
 use Rattle.sd_names.specs.declared.place.Dir.TheVariants.{Root}
 use Rattle.shared_disk.specs.Content.{Content}
 use Rattle.pool_session.specs.Folders.{HasJust, HasSome, IsAmong, IsOrderly, with_made}
+use Rattle.pool_session.proofs.ProgressLemmas.{Progress, Rooted}
 use Rattle.pool_session.proofs.folders.make_dirs.Given as goal
 
 -- the folders so far are there, and those that are left can be made
@@ -18,3 +19,4 @@ invariant-loop-dir g l =
     × ((d : Content) → content l.fn.disk ≡ Some d → (e : Content) × (content l.disk ≡ Some e)
     × ((q : Dir) → e.dir q ≡ false → d.dir q ≡ false)
     × (((q : Dir) → IsAmong (drop l.dir-index l.dirs) q → d.dir q ≡ false) → (q : Dir) → IsAmong l.dirs q → d.dir q ≡ false))
+    × ((d : Content) → content l.fn.disk ≡ Some d → (e : Content) × (content l.disk ≡ Some e) × Progress l.dirs (drop l.dir-index l.dirs) d e × Rooted l.dirs known (drop l.dir-index l.dirs) d e)

@@ -1,8 +1,11 @@
-use Rattle.std.proofs.Common.{◌≡◌, ◌⊎◌, ◌/◌, Some, refl, subst, sym, inr, arith}
+use Rattle.std.proofs.Common.{◌≡◌, ◌⊎◌, ◌/◌, Ok, Some, refl, subst, sym, inr, arith}
 use Rattle.shared_disk.specs.Content.{Content}
-use Rattle.shared_disk.specs.Calls.{IsPut, created, synced}
+use Rattle.shared_disk.specs.Calls.{IsCreated, IsPut, Syncs, created, synced}
 use Rattle.pool_session.proofs.FaultLemmas.{ends_since, fault_told}
 use Rattle.pool_session.proofs.ImageLemmas.{create_failed, put_twice}
+use Rattle.pool_session.specs.FileCalls.{FileMade}
+use Rattle.pool_session.proofs.AnyLemmas.{file_made}
+use Rattle.pool_session.proofs.ToldLemmas.{ok_since}
 use Rattle.pool_session.proofs.image.create_file.Goals as goal
 
 pub returns-in-Ok-clause-content : goal.returns-in-Ok-clause-content
@@ -27,3 +30,13 @@ returns-in-Err-clause-content g c d tells folder free =
     let failed = create_failed d call.0 c.args.host c.args.place (c.args.size / 512) c.in-Err.answer folder free call.2 in
     let fault = fault_told (g.D.SharedDisk.faults c.args.disk.now) (g.D.SharedDisk.faults c.create.new.self) _ c.in-Err.answer c.refusal_for.result refl c.in-Err.ensures.cause failed.0 c.refusal_for.ensures in
     (call.0, call.1, (fault, failed.1))
+
+pub returns-in-Ok-clause-made : goal.returns-in-Ok-clause-made
+returns-in-Ok-clause-made g c =
+    let content = g.D.SharedDisk.content in
+    let host = c.args.host in
+    let place = c.args.place in
+    let size = c.args.size / 512 in
+    ok_since c.sync_file.result (content c.args.disk.now) (content c.create.new.self) (content c.sync_file.new.disk)
+    (λ d e. IsCreated d host place size e) (λ d e. Syncs d host place (Ok tt) e) (FileMade host place size)
+    (file_made host place size) c.in-Ok.ensures.call c.sync_file.ensures.synced

@@ -1,4 +1,4 @@
-use Rattle.std.proofs.Common.{◌||◌}
+use Rattle.std.proofs.Common.{◌||◌, sym}
 use Rattle.script_lines.specs.Event.{event_by}
 use Rattle.pool_session.specs.Answer.{answer_in, is_refusal}
 use Rattle.pool_session.specs.Machine.{state_after}
@@ -23,3 +23,11 @@ returns-clause-answered g c flat refusals reached =
         rw (c.requires.empty, c.read_count-count.ensures) at c.push_reply.ensures.items,
       ),
     )
+
+pub returns-clause-any : goal.returns-clause-any
+returns-clause-any g c = rw (sym c.requires.loud) (
+  answer_in c.answer-answer.result c.answer-answer.new.room,
+  c.answer-answer.ensures.any,
+  c.outcome.ensures,
+  rw (c.requires.empty, c.read_count-count.ensures) at c.push_reply.ensures.items,
+)

@@ -4,6 +4,8 @@ use Rattle.raw_layer.specs.Raw.{WriteSteps}
 use Rattle.shared_disk.specs.Refusal.{IsRisen}
 use Rattle.pool_session.proofs.FaultLemmas.{rose_since}
 use Rattle.pool_session.proofs.TurnLemmas.{more_knows, done_holds, ended_mixed}
+use Rattle.pool_session.specs.Image.{file_of}
+use Rattle.pool_session.proofs.AnyLemmas.{more_sofar, done_written, ended_written}
 use Rattle.pool_session.proofs.image.Image.write.Goals as goal
 
 pub loop-next-preserved : goal.loop-next-preserved
@@ -21,6 +23,14 @@ loop-next-preserved g c =
             step.1,
             more_knows c.args.self.now flat c.loop-next.write c.args.at (g.D.SharedDisk.faults c.step.new.disk) c.args.part.now knows.0 step.0 c.loop-next.invariant.0 c.loop-next.invariant.1
                 c.requires.aligned c.requires.piece.0 c.requires.within c.loop-next.write.stage c.in-More.next knows.2 steps,
+          ),
+      λ d tells.
+          let sofar = c.loop-next.invariant.4 d tells in
+          let step = c.in-More.ensures.content sofar.0 sofar.1 in (
+            step.0,
+            step.1,
+            more_sofar c.loop-next.write c.args.host c.args.at (g.D.SharedDisk.faults c.step.new.disk) c.args.self.now.capacity (file_of c.args.self.now) c.args.part.now d sofar.0 step.0
+                c.loop-next.invariant.0 c.loop-next.invariant.1 c.requires.within c.loop-next.write.stage c.in-More.next sofar.2 step.2,
           ),
     )
 
@@ -44,3 +54,23 @@ returns-in-Ended-clause-content g c d flat one tells holds =
     c.requires.aligned c.requires.piece.0 c.requires.within c.loop-next.write.stage c.in-Ended.refusal knows.2 steps in
     let cause = subst (IsRisen (g.D.SharedDisk.faults c.loop-next.disk) (g.D.SharedDisk.faults c.step.new.disk)) mixed.0 c.in-Ended.ensures.counts.cause in
     (step.0, step.1, ((rose_since (g.D.SharedDisk.faults c.args.disk.now) (g.D.SharedDisk.faults c.loop-next.disk) (g.D.SharedDisk.faults c.step.new.disk) c.loop-next.invariant.2 cause.0, mixed.0), mixed.1.0, mixed.1.1, mixed.1.2))
+
+pub returns-in-Done-clause-written : goal.returns-in-Done-clause-written
+returns-in-Done-clause-written g c d tells =
+    let sofar = c.loop-next.invariant.4 d tells in
+    let step = c.in-Done.ensures.content sofar.0 sofar.1 in (
+      step.0,
+      step.1,
+      done_written c.loop-next.write c.args.host c.args.at (g.D.SharedDisk.faults c.step.new.disk) c.args.self.now.capacity (file_of c.args.self.now) c.args.part.now d sofar.0 step.0
+          c.loop-next.invariant.0 c.loop-next.invariant.1 c.requires.within c.loop-next.write.stage sofar.2 step.2,
+    )
+
+pub returns-in-Ended-clause-written : goal.returns-in-Ended-clause-written
+returns-in-Ended-clause-written g c d tells =
+    let sofar = c.loop-next.invariant.4 d tells in
+    let step = c.in-Ended.ensures.content sofar.0 sofar.1 in (
+      step.0,
+      step.1,
+      ended_written c.loop-next.write c.args.host c.args.at (g.D.SharedDisk.faults c.step.new.disk) c.args.self.now.capacity (file_of c.args.self.now) c.args.part.now d sofar.0 step.0
+          c.loop-next.invariant.0 c.loop-next.invariant.1 c.requires.within c.loop-next.write.stage c.in-Ended.refusal sofar.2 step.2,
+    )

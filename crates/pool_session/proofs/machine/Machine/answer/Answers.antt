@@ -35,3 +35,9 @@ returns-in-Err-clause-content g c d flat refusals tells stands =
       stands,
       answers_refused s (state_after s c.args.self.now.stage flat (g.D.SharedDisk.faults c.args.disk.now) answer) (asked_of (event_by c.args.line.now)) c.in-Err.refusal answer c.in-Err.ensures.due (refl, omega arith, refl),
     )
+
+pub returns-in-Ok-clause-any : goal.returns-in-Ok-clause-any
+returns-in-Ok-clause-any g c = rw c.in-Ok.ensures.due c.run.ensures.any
+
+pub returns-in-Err-clause-any : goal.returns-in-Err-clause-any
+returns-in-Err-clause-any g c = rw c.in-Err.ensures.due ((refl, refl), refl)
