@@ -10,8 +10,8 @@ use sd_names::{HostId, Id, Place, Refusal, Turn};
 use shared_disk::SharedDisk;
 use std::alloc::Global;
 
-/// The opening of a layer, in steps of at most one call of the disk: the file's length, its header, the counts of its
-/// clusters, then what its tables name, in the order of the positions.
+/// The opening of a layer, in steps of at most one call of the disk: the file's length, its header, then what its tables
+/// name, in the order of the positions, and last the counts of its clusters.
 #[derive(Drop)]
 pub struct Opening {
     alloc: Global,
