@@ -1,0 +1,17 @@
+pub mod Capacities
+pub mod Clusters
+pub mod Covers
+pub mod Enters
+pub mod Frames
+pub mod Grows
+pub mod Heads
+pub mod Items
+pub mod Kept
+pub mod Links
+pub mod Numbers
+pub mod Places
+pub mod Positions
+pub mod Rebases
+pub mod Recounts
+pub mod Renamed
+pub mod Sound
