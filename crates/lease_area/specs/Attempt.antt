@@ -1,5 +1,5 @@
 -- What an exchange that takes a sector comes to, before its refusal is known.
-use Rattle.std.specs.Prelude.{ℕ, Option, Some, None, Result, Ok, Err}
+use Rattle.std.specs.Prelude.{◌≡◌, ℕ, Option, Some, None, Result, Ok, Err}
 use Rattle.shared_disk.specs.Refusal.{IsRisen, refusal_of}
 use Rattle.shared_disk.specs.Step.{IsDiskRefusal}
 use Rattle.shared_disk.specs.declared.disk.DiskAnswer.{DiskAnswer}
@@ -13,9 +13,9 @@ use Rattle.lease_area.specs.declared.lease.Lease.{Lease as Held}
 use Rattle.lease_area.specs.declared.sector.LeaseRecord.{LeaseRecord}
 use Rattle.lease_area.specs.declared.sector.Sector.{Sector}
 
--- a refusal of the disk has its cause
+-- a refusal of the disk has its cause, and where a sector was found no fault was counted
 abbrev pub IsNotTaken : ℕ → ℕ → NotTaken → Type 0
-IsNotTaken before after (Found sector) = Unit {0}
+IsNotTaken before after (Found sector) = after ≡ before
 IsNotTaken before after (Refused refusal) = IsDiskRefusal refusal × IsRisen before after refusal
 
 -- the expected sector stands there: the new lease, where there is one

@@ -1,5 +1,5 @@
 // One exchange that takes a sector, where it may be taken.
-ghost use Rattle.std.specs.Prelude.{◌≡◌, ◌≢◌, ◌≤◌, ◌+◌, ◌-◌, ◌^◌, Some, min, IfErr, IfOk, IfSome};
+ghost use Rattle.std.specs.Prelude.{◌≡◌, ◌≢◌, ◌≤◌, ◌+◌, ◌-◌, ◌^◌, Some, min, MatchResult, IfOk, IfSome};
 ghost use Rattle.shared_disk.specs.Calls.{Told};
 ghost use Rattle.lease_area.specs.Attempt.{IsNotTaken, attempt_answer, attempted};
 ghost use Rattle.lease_area.specs.Hold.{ByOneExchange, domain_of, record_of, slot_of};
@@ -32,7 +32,7 @@ pub(crate) fn attempt<D: SharedDisk>(
     requires { IfSome new (λ r. r.kind ≢ Free) }
     ensures no_less { D.faults disk.old ≤ D.faults disk.new }
     ensures counted { D.calls disk.new ≡ min (D.calls disk.old + 1) (2 ^ 64 - 1) }
-    ensures cause { IfErr result (IsNotTaken (D.faults disk.old) (D.faults disk.new)) }
+    ensures cause { MatchResult result (λ _. D.faults disk.new ≡ D.faults disk.old) (IsNotTaken (D.faults disk.old) (D.faults disk.new)) }
     ensures lease { IfOk result (λ lease. (domain_of lease ≡ sd) × (slot_of lease ≡ slot) × (new ≡ Some (record_of lease))) }
     ensures exchange { Told (D.content disk.old) (D.content disk.new) (λ d e. ByOneExchange host sd slot expect.now (next_sector new expect.now) (attempt_answer new expect.now (D.faults disk.new)) (attempted result) d e) }
 {

@@ -11,7 +11,7 @@ use sd_names::{HostId, Id, Refusal, UpSet};
 pub(crate) fn image_refusal(up: &UpSet, host: HostId, image: Id, found: Option<Sector>) -> Refusal
     ensures exact { result ≡ image_refusal up.now host image found }
     ensures which { IsImageRefusal result }
-    ensures no_fault { (before after : ℕ) → IsRisen before after result }
+    ensures no_fault { (before after : ℕ) → after ≡ before → IsRisen before after result }
 {
     match &found {
         Some(Sector::Lease(record)) => {
@@ -38,7 +38,7 @@ pub(crate) fn role_refusal(
 ) -> Refusal
     ensures exact { result ≡ role_refusal up.now host expect.now found }
     ensures which { IsRoleRefusal result }
-    ensures no_fault { (before after : ℕ) → IsRisen before after result }
+    ensures no_fault { (before after : ℕ) → after ≡ before → IsRisen before after result }
 {
     let found = match found {
         Some(found) => found,

@@ -19,7 +19,7 @@ use Rattle.memory_disk.specs.declared.entry.Write.{Write}
 use Rattle.memory_disk.specs.declared.sector_map.Sectors.{Sectors}
 use Rattle.memory_disk.specs.Listing.{HasDir, HasName, IsLeastDir, IsLeastName, IsLeast, IsLesser}
 use Rattle.shared_disk.specs.NameCalls.{IsDirAbove, IsNameAbove, IsNextDir, IsNextName, ShowsDir, ShowsName, place_in}
-use Rattle.shared_disk.specs.Calls.{parent_of}
+use Rattle.sd_names.specs.Place.{parent_of}
 use Rattle.shared_disk.specs.Places.{dir_is}
 use Rattle.memory_disk.specs.Store.{AreApart, content_of, file_of, found, has_dir, slot}
 use Rattle.memory_disk.proofs.Contents.{file_at, none_at, or_true}

@@ -9,7 +9,8 @@ use Rattle.sd_names.specs.declared.place.Place.{Place}
 use Rattle.memory_disk.specs.declared.entry.FileEntry.{FileEntry}
 use Rattle.memory_disk.specs.declared.entry.Write.{Write}
 use Rattle.memory_disk.specs.declared.sector_map.Sectors.{Sectors}
-use Rattle.shared_disk.specs.Calls.{IsDirPut, IsPut, parent_of, sectors_in}
+use Rattle.sd_names.specs.Place.{parent_of}
+use Rattle.shared_disk.specs.Calls.{IsDirPut, IsPut, sectors_in}
 use Rattle.shared_disk.specs.Content.{Content, File, Loose, sector_of, zero_sector}
 use Rattle.shared_disk.specs.Crash.{IsSector}
 use Rattle.shared_disk.specs.WellFormed.{IsWellFormed, IsWellFormedFile}

@@ -6,7 +6,7 @@ use Rattle.sd_names.specs.Place.{dir_cmp, name_cmp}
 use Rattle.sd_names.specs.declared.place.Dir.{Dir}
 use Rattle.sd_names.specs.declared.place.Dir.TheVariants.{Root}
 use Rattle.sd_names.specs.declared.place.Name.{Name}
-use Rattle.shared_disk.specs.Calls.{parent_of}
+use Rattle.sd_names.specs.Place.{parent_of}
 use Rattle.shared_disk.specs.NameCalls.{IsDirAbove, IsNameAbove, place_in}
 use Rattle.shared_disk.specs.Places.{dir_is}
 use Rattle.memory_disk.specs.declared.entry.FileEntry.{FileEntry}

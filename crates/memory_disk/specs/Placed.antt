@@ -2,7 +2,8 @@
 use Rattle.std.specs.Prelude.{◌≡◌, ◌≢◌, ◌⊎◌, ℕ, zero, suc, ◌≤◌, ◌+◌, ◌-◌, ◌*◌, ◌/◌, ◌%◌, ◌<◌, min, true, List, length, drop, get_or, Option, Some, None, Result, Ok, Err}
 use Rattle.sd_names.specs.declared.place.Dir.{Dir}
 use Rattle.sd_names.specs.declared.place.Place.{Place}
-use Rattle.shared_disk.specs.Calls.{IsSame, parent_of, sectors_in}
+use Rattle.sd_names.specs.Place.{parent_of}
+use Rattle.shared_disk.specs.Calls.{IsSame, sectors_in}
 use Rattle.shared_disk.specs.Content.{Content, File, sector_of, zero_sector}
 use Rattle.shared_disk.specs.Crash.{IsSettled}
 

@@ -8,7 +8,6 @@ ghost use Rattle.shared_disk.specs.Places.{dir_is};
 ghost use Rattle.memory_disk.specs.declared.entry.FileEntry.{FileEntry};
 
 use crate::entry::FileEntry;
-use crate::store::parent;
 use sd_names::{Dir, Name};
 use std::cmp::Ordering;
 
@@ -87,7 +86,7 @@ fn with_file(
 fn with_dir(least: Option<Dir>, made: Dir, dir: Dir, after: Option<Dir>) -> Option<Dir>
     ensures { (front : List Dir) → IsLeastDir front dir after least → IsLeastDir (front ++ made ∷ []) dir after result }
 {
-    if !made.is(&Dir::Root) && parent(made).is(&dir) && is_dir_above(after, made) {
+    if !made.is(&Dir::Root) && made.parent().is(&dir) && is_dir_above(after, made) {
         Some(lesser_dir(least, made))
     } else {
         least

@@ -3,7 +3,7 @@ ghost use Rattle.std.specs.Prelude.{◌≡◌, ◌≢◌, ℕ, ◌+◌, ◌-◌,
 ghost use Rattle.std.proofs.Props.{props};
 ghost use Rattle.sd_names.specs.declared.place.Dir.TheVariants.{Root};
 ghost use Rattle.shared_disk.specs.Content.{writes, own_of, sector_of, zero_sector};
-ghost use Rattle.shared_disk.specs.Calls.{IsAligned, IsPiece, ReadAt, WriteAt, Syncs, Creates, HasLength, MakesDir, parent_of};
+ghost use Rattle.shared_disk.specs.Calls.{IsAligned, IsPiece, ReadAt, WriteAt, Syncs, Creates, HasLength, MakesDir};
 ghost use Rattle.memory_disk.specs.Sectors.{sector_at, kept_count, kept_room};
 ghost use Rattle.memory_disk.specs.Store.{AreHoused, IsLogWithin, IsStableWithin, has_dir, loose_of, others_of, or_else, slot, slot_size};
 
@@ -19,18 +19,6 @@ mod down;
 mod names;
 mod placing;
 mod sectors;
-
-/// The folder in which a folder stands. Root stands in itself.
-pub(crate) fn parent(dir: Dir) -> Dir
-    ensures { result ≡ parent_of dir }
-{
-    match dir {
-        Dir::Root | Dir::Domain(_) => Dir::Root,
-        Dir::DomMd(sd) | Dir::Images(sd) | Dir::Master(sd) => Dir::Domain(sd),
-        Dir::Image(sd, _) | Dir::Removed(sd, _) => Dir::Images(sd),
-        Dir::Tasks(sd) => Dir::Master(sd),
-    }
-}
 
 /// Folders, files, stable sectors and unsynced writes. Each of them is one unit, but for the root, and there is room
 /// for a fixed count of units.
@@ -135,7 +123,7 @@ impl Store {
         ensures kept { OnErr result (self.new ≡ self.old) }
         ensures room { self.new.room ≡ self.old.room }
     {
-        if !is_dir(&self.dirs, parent(dir)) {
+        if !is_dir(&self.dirs, dir.parent()) {
             return Err(DiskAnswer::NoFile);
         }
         if is_dir(&self.dirs, dir) {

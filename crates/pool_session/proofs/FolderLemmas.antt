@@ -5,7 +5,8 @@ use Rattle.std.proofs.lemmas.Bool.{false≢true}
 use Rattle.sd_names.specs.declared.place.Dir.{Dir}
 use Rattle.sd_names.specs.declared.place.Dir.TheVariants.{Root}
 use Rattle.shared_disk.specs.Content.{Content, IsEmpty}
-use Rattle.shared_disk.specs.Calls.{IsDirMade, MakesDir, parent_of}
+use Rattle.sd_names.specs.Place.{parent_of}
+use Rattle.shared_disk.specs.Calls.{IsDirMade, MakesDir}
 use Rattle.shared_disk.specs.declared.disk.DiskAnswer.{DiskAnswer}
 use Rattle.shared_disk.specs.declared.disk.DiskAnswer.TheVariants.{NoFile, Exists, OutOfFile, NotEmpty, Failed}
 use Rattle.pool_session.specs.Folders.{HasJust, HasSome, IsAmong}

@@ -30,44 +30,44 @@ on_part : (o p : Option Refusal) → o ≡ p → ((x : Refusal) → o ≡ Some x
 on_part None p e not s image answer t P h = subst (λ (q : Option Refusal). OnPart q s image answer t P) e h
 on_part (Some x) p e not s image answer t P h = absurd (not x refl)
 
-module _ (stage : Stage) (flat : ℕ → List ℕ) (faults : ℕ) (refusals : Bool) (image : Image) (at faults' : ℕ) (o : Option Refusal) (not : (x : Refusal) → o ≡ Some x → ⊥) (no_less : faults ≤ faults') where
+module _ (stage : Stage) (flat : ℕ → List ℕ) (faults : ℕ) (refusals : Bool) (image : Image) (at faults' : ℕ) (o : Option Refusal) (not : (x : Refusal) → o ≡ Some x → ⊥) where
   -- a write that is done
-  pub write_done : (bytes read : List ℕ) → o ≡ part_refusal at (length bytes) image.capacity
+  pub write_done : faults' ≡ faults → (bytes read : List ℕ) → o ≡ part_refusal at (length bytes) image.capacity
       → Acts (state_at stage flat faults refusals) (act.Write image at) bytes (Done payload.Write, read)
       (state_after (state_at stage flat faults refusals) (Opened image) (laid (at / 512) bytes flat) faults' (Done payload.Write, read))
-  write_done bytes read is = on_part o (part_refusal at (length bytes) image.capacity) is not (state_at stage flat faults refusals) image (Done payload.Write, read)
+  write_done same bytes read is = on_part o (part_refusal at (length bytes) image.capacity) is not (state_at stage flat faults refusals) image (Done payload.Write, read)
       (state_after (state_at stage flat faults refusals) (Opened image) (laid (at / 512) bytes flat) faults' (Done payload.Write, read))
       (WritesImage (state_at stage flat faults refusals) image at bytes (Done payload.Write, read) (state_after (state_at stage flat faults refusals) (Opened image) (laid (at / 512) bytes flat) faults' (Done payload.Write, read)))
-      (inl (refl, no_less, refl))
+      (inl (refl, same, refl))
 
   -- a write that a fault has cut
-  pub write_cut : (bytes read : List ℕ) (refusal : Refusal) (mixed : ℕ → List ℕ) → o ≡ part_refusal at (length bytes) image.capacity
+  pub write_cut : faults ≤ faults' → (bytes read : List ℕ) (refusal : Refusal) (mixed : ℕ → List ℕ) → o ≡ part_refusal at (length bytes) image.capacity
       → Rose faults faults' → refusal ≡ DiskFault faults' → Mixed (at / 512) bytes flat mixed
       → Acts (state_at stage flat faults refusals) (act.Write image at) bytes (Refused refusal, read)
       (state_after (state_at stage flat faults refusals) (Stopped image) mixed faults' (Refused refusal, read))
-  write_cut bytes read refusal mixed is rose told mixes =
+  write_cut no_less bytes read refusal mixed is rose told mixes =
       on_part o (part_refusal at (length bytes) image.capacity) is not (state_at stage flat faults refusals) image (Refused refusal, read)
       (state_after (state_at stage flat faults refusals) (Stopped image) mixed faults' (Refused refusal, read))
       (WritesImage (state_at stage flat faults refusals) image at bytes (Refused refusal, read) (state_after (state_at stage flat faults refusals) (Stopped image) mixed faults' (Refused refusal, read)))
-      (inr (mixed, mixes, (rose, (ap (λ r. Refused r) told, no_less, refl))))
+      (inr (mixed, mixes, (rose, ap (λ r. Refused r) told, no_less, refl)))
 
   -- a read that is done
-  pub read_done : (count : ℕ) (bytes read : List ℕ) → o ≡ part_refusal at count image.capacity → length read ≡ count → ReadsFlat (at / 512) flat read
+  pub read_done : faults' ≡ faults → (count : ℕ) (bytes read : List ℕ) → o ≡ part_refusal at count image.capacity → length read ≡ count → ReadsFlat (at / 512) flat read
       → Acts (state_at stage flat faults refusals) (act.Read image at count) bytes (Done (payload.Read count), read)
       (state_after (state_at stage flat faults refusals) (Opened image) flat faults' (Done (payload.Read count), read))
-  read_done count bytes read is long reads = on_part o (part_refusal at count image.capacity) is not (state_at stage flat faults refusals) image (Done (payload.Read count), read)
+  read_done same count bytes read is long reads = on_part o (part_refusal at count image.capacity) is not (state_at stage flat faults refusals) image (Done (payload.Read count), read)
       (state_after (state_at stage flat faults refusals) (Opened image) flat faults' (Done (payload.Read count), read))
       (ReadsImage (state_at stage flat faults refusals) image at count (Done (payload.Read count), read) (state_after (state_at stage flat faults refusals) (Opened image) flat faults' (Done (payload.Read count), read)))
-      (inl (long, reads, (refl, no_less, refl)))
+      (inl (long, reads, (refl, same, refl)))
 
   -- a read that has failed
-  pub read_cut : (count : ℕ) (bytes read : List ℕ) (refusal : Refusal) → o ≡ part_refusal at count image.capacity → Rose faults faults' → refusal ≡ DiskFault faults'
+  pub read_cut : faults ≤ faults' → (count : ℕ) (bytes read : List ℕ) (refusal : Refusal) → o ≡ part_refusal at count image.capacity → Rose faults faults' → refusal ≡ DiskFault faults'
       → Acts (state_at stage flat faults refusals) (act.Read image at count) bytes (Refused refusal, read)
       (state_after (state_at stage flat faults refusals) (Stopped image) flat faults' (Refused refusal, read))
-  read_cut count bytes read refusal is rose told = on_part o (part_refusal at count image.capacity) is not (state_at stage flat faults refusals) image (Refused refusal, read)
+  read_cut no_less count bytes read refusal is rose told = on_part o (part_refusal at count image.capacity) is not (state_at stage flat faults refusals) image (Refused refusal, read)
       (state_after (state_at stage flat faults refusals) (Stopped image) flat faults' (Refused refusal, read))
       (ReadsImage (state_at stage flat faults refusals) image at count (Refused refusal, read) (state_after (state_at stage flat faults refusals) (Stopped image) flat faults' (Refused refusal, read)))
-      (inr (rose, (ap (λ r. Refused r) told, no_less, refl)))
+      (inr (rose, ap (λ r. Refused r) told, no_less, refl))
 
 -- a file that is all on the medium is seen as it is
 pub holds_seen : (image : Image) (flat : ℕ → List ℕ) (d : Content) → HoldsFlat image flat d → SeenFlat image flat d

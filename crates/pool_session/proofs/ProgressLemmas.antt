@@ -6,7 +6,8 @@ use Rattle.sd_names.specs.declared.place.Dir.TheVariants.{Root}
 use Rattle.sd_names.specs.declared.place.Place.{Place}
 use Rattle.sd_names.specs.declared.refusal.Refusal.{Refusal}
 use Rattle.shared_disk.specs.Content.{Content}
-use Rattle.shared_disk.specs.Calls.{IsDirMade, IsSame, parent_of}
+use Rattle.sd_names.specs.Place.{parent_of}
+use Rattle.shared_disk.specs.Calls.{IsDirMade, IsSame}
 use Rattle.shared_disk.specs.WellFormed.{IsWellFormed}
 use Rattle.pool_session.specs.Fault.{SameOrFault}
 use Rattle.pool_session.specs.FileCalls.{DirRefused}

@@ -6,7 +6,8 @@ use Rattle.sd_names.specs.declared.place.Place.{Place}
 use Rattle.sd_names.specs.declared.refusal.Refusal.{Refusal}
 use Rattle.sd_names.specs.declared.refusal.Refusal.TheVariants.{DiskFault}
 use Rattle.shared_disk.specs.Content.{Content}
-use Rattle.shared_disk.specs.Calls.{parent_of, IsDirMade, IsPut, IsSame, PartWritten, Syncs, WriteAt, created, synced}
+use Rattle.sd_names.specs.Place.{parent_of}
+use Rattle.shared_disk.specs.Calls.{IsDirMade, IsPut, IsSame, PartWritten, Syncs, WriteAt, created, synced}
 use Rattle.pool_session.specs.Image.{file_of}
 use Rattle.pool_session.specs.declared.image.Image.{Image}
 

@@ -5,7 +5,7 @@ use Rattle.sd_names.specs.declared.place.Dir.{Dir}
 use Rattle.sd_names.specs.declared.place.Dir.TheVariants.{Root, Domain, DomMd, Images, Master, Tasks}
 use Rattle.sd_names.specs.declared.place.Place.{Place}
 use Rattle.shared_disk.specs.Content.{Content}
-use Rattle.shared_disk.specs.Calls.{parent_of}
+use Rattle.sd_names.specs.Place.{parent_of}
 
 -- the folder is one of these
 abbrev pub IsAmong : List Dir → Dir → Type 0

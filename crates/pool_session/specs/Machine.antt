@@ -70,13 +70,14 @@ part_refusal at count capacity =
 abbrev pub state_after : State → Stage → (ℕ → List ℕ) → ℕ → Answer → State
 state_after s stage flat faults answer = record { stage = stage; flat = flat; faults = faults; refusals = s.refusals || is_refusal answer.0 }
 
--- The machine gives this reply and goes on at a stage with these sectors.
+-- The machine gives this reply and goes on at a stage with these sectors. The disk's count of faults is as it was.
 abbrev pub GoesOn : State → Stage → (ℕ → List ℕ) → Reply → Answer → State → Type 0
-GoesOn s stage flat wanted answer t = (answer.0 ≡ wanted) × (s.faults ≤ t.faults) × (t ≡ state_after s stage flat t.faults answer)
+GoesOn s stage flat wanted answer t = (answer.0 ≡ wanted) × (t.faults ≡ s.faults) × (t ≡ state_after s stage flat t.faults answer)
 
 -- The disk has failed: its count rose, is told, and nothing more is built.
 abbrev pub Stops : State → Stage → (ℕ → List ℕ) → Answer → State → Type 0
-Stops s stage flat answer t = Rose s.faults t.faults × GoesOn s stage flat (Refused (DiskFault t.faults)) answer t
+Stops s stage flat answer t =
+    Rose s.faults t.faults × (answer.0 ≡ Refused (DiskFault t.faults)) × (s.faults ≤ t.faults) × (t ≡ state_after s stage flat t.faults answer)
 
 -- a line is refused and changes nothing
 abbrev pub Refuses : State → Refusal → Answer → State → Type 0

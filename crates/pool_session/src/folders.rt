@@ -2,7 +2,9 @@
 ghost use Rattle.std.specs.Prelude.{◌≡◌, ◌≢◌, ◌≤◌, ◌∷◌, [], List, Some, false, IfOk, MatchResult};
 ghost use Rattle.sd_names.specs.declared.place.Dir.TheVariants.{Root};
 ghost use Rattle.shared_disk.specs.Content.{Content, IsEmpty};
-ghost use Rattle.shared_disk.specs.Calls.{IsDirMade, Told, parent_of};
+ghost use Rattle.sd_names.specs.Place.{parent_of};
+ghost use Rattle.shared_disk.specs.Calls.{IsDirMade, Told};
+ghost use Rattle.shared_disk.specs.Step.{ResultFaults};
 ghost use Rattle.pool_session.specs.Fault.{IsFault, SameOrFault};
 ghost use Rattle.pool_session.specs.FileCalls.{DirRefused};
 ghost use Rattle.pool_session.specs.Folders.{AreMade, HasJust, HasSome, HasDomain, HasNoFolder, HasPartOfDomain, IsAmong, IsOrderly, IsUnderFirst, MayBeMade, folders_of, with_made};
@@ -16,6 +18,7 @@ use shared_disk::{SharedDisk, refusal_for};
 pub fn make_dir<D: SharedDisk>(host: HostId, dir: Dir, disk: &mut D) -> Result<(), Refusal>
     requires { dir ≢ Root }
     ensures count { D.faults disk.old ≤ D.faults disk.new }
+    ensures faults { ResultFaults (D.faults disk.old) (D.faults disk.new) result }
     ensures made { IfOk result (λ _. Told (D.content disk.old) (D.content disk.new) (λ d e. IsDirMade d dir e)) }
     ensures refused { MatchResult result (λ _. Unit {0}) (λ refusal. Told (D.content disk.old) (D.content disk.new) (DirRefused dir refusal)) }
     ensures content { (d : Content) (dirs : List Dir) → D.content disk.old ≡ Some d → HasJust dirs d
@@ -34,6 +37,7 @@ fn make_dirs<D: SharedDisk>(host: HostId, dirs: &[Dir], disk: &mut D) -> Result<
     requires orderly { IsOrderly (Root ∷ []) dirs.now }
     requires under { IsUnderFirst dirs.now }
     ensures count { D.faults disk.old ≤ D.faults disk.new }
+    ensures faults { ResultFaults (D.faults disk.old) (D.faults disk.new) result }
     ensures new { IfOk result (λ _. (d : Content) → D.content disk.old ≡ Some d → (q : Dir) → IsAmong dirs.now q → d.dir q ≡ false) }
     ensures made { MatchResult result
         (λ _. Told (D.content disk.old) (D.content disk.new) (AreMade dirs.now))
@@ -53,6 +57,7 @@ fn make_dirs<D: SharedDisk>(host: HostId, dirs: &[Dir], disk: &mut D) -> Result<
 /// nothing.
 pub fn make_folders<D: SharedDisk>(host: HostId, sd: Id, disk: &mut D) -> Result<(), Refusal>
     ensures count { D.faults disk.old ≤ D.faults disk.new }
+    ensures faults { ResultFaults (D.faults disk.old) (D.faults disk.new) result }
     ensures new { IfOk result (λ _. HasNoFolder sd (D.content disk.old)) }
     ensures made { MatchResult result
         (λ _. Told (D.content disk.old) (D.content disk.new) (AreMade (folders_of sd)))

@@ -6,6 +6,7 @@ ghost use Rattle.shared_disk.specs.Calls.{IsAligned, IsPiece, IsPut, IsSame, Syn
 ghost use Rattle.pool_session.specs.FileCalls.{FileMade, ImageMade, ImagePartlyMade, PartlyWritten, Written};
 ghost use Rattle.raw_layer.specs.Raw.{ReadsFile};
 ghost use Rattle.pool_session.specs.Capacity.{IsCapacity};
+ghost use Rattle.shared_disk.specs.Step.{ResultFaults};
 ghost use Rattle.pool_session.specs.Fault.{IsFault, SameOrFault};
 ghost use Rattle.pool_session.specs.Folders.{HasDomain};
 
@@ -49,6 +50,7 @@ impl Image {
     pub fn create<D: SharedDisk>(&self, host: HostId, disk: &mut D) -> Result<(), Refusal>
         requires { IsCapacity self.now.capacity }
         ensures count { D.faults disk.old ≤ D.faults disk.new }
+        ensures faults { ResultFaults (D.faults disk.old) (D.faults disk.new) result }
         ensures made { MatchResult result
             (λ _. Told (D.content disk.old) (D.content disk.new) (ImageMade host self.now))
             (λ refusal. Told (D.content disk.old) (D.content disk.new) (SameOrFault refusal (ImagePartlyMade host self.now))) }
@@ -73,6 +75,7 @@ impl Image {
         requires piece { IsPiece (length part.old) }
         requires within { at + length part.old ≤ self.now.capacity }
         ensures count { D.faults disk.old ≤ D.faults disk.new }
+        ensures faults { ResultFaults (D.faults disk.old) (D.faults disk.new) result }
         ensures read { MatchResult result
             (λ _. Told (D.content disk.old) (D.content disk.new) (λ d e. IsSame d e × ReadsFile d host (file_of self.now) (at / 512) part.new))
             (λ _. Told (D.content disk.old) (D.content disk.new) IsSame) }
@@ -102,6 +105,7 @@ impl Image {
         requires piece { IsPiece (length part.now) }
         requires within { at + length part.now ≤ self.now.capacity }
         ensures count { D.faults disk.old ≤ D.faults disk.new }
+        ensures faults { ResultFaults (D.faults disk.old) (D.faults disk.new) result }
         ensures written { MatchResult result
             (λ _. Told (D.content disk.old) (D.content disk.new) (Written host (file_of self.now) (at / 512) part.now))
             (λ refusal. Told (D.content disk.old) (D.content disk.new) (SameOrFault refusal (PartlyWritten host (file_of self.now) (at / 512) part.now))) }
@@ -134,6 +138,7 @@ fn create_file<D: SharedDisk>(
 ) -> Result<(), Refusal>
     requires { IsAligned size }
     ensures count { D.faults disk.old ≤ D.faults disk.new }
+    ensures faults { ResultFaults (D.faults disk.old) (D.faults disk.new) result }
     ensures made { IfOk result (λ _. Told (D.content disk.old) (D.content disk.new) (FileMade host place (size / 512))) }
     ensures content { (d : Content) → D.content disk.old ≡ Some d → d.dir place.dir ≡ true → d.file place ≡ None
         → (e : Content) × (D.content disk.new ≡ Some e)
@@ -150,6 +155,7 @@ fn create_file<D: SharedDisk>(
 /// Syncs a file. Where the disk tells that it is there, it is refused only for a fault of the disk, which changes nothing.
 fn sync_file<D: SharedDisk>(host: HostId, place: Place, disk: &mut D) -> Result<(), Refusal>
     ensures count { D.faults disk.old ≤ D.faults disk.new }
+    ensures faults { ResultFaults (D.faults disk.old) (D.faults disk.new) result }
     ensures synced { IfOk result (λ _. Told (D.content disk.old) (D.content disk.new) (λ d e. Syncs d host place (Ok tt) e)) }
     ensures content { (d : Content) (f : File) → D.content disk.old ≡ Some d → d.file place ≡ Some f
         → (e : Content) × (D.content disk.new ≡ Some e)

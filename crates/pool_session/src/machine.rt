@@ -2,6 +2,7 @@
 ghost use Rattle.std.specs.Prelude.{◌≡◌, ◌≤◌, ◌+◌, ◌/◌, ◌%◌, ℕ, List, Some, length, take, IfNone, MatchResult};
 ghost use Rattle.shared_disk.specs.Content.{Content};
 ghost use Rattle.shared_disk.specs.Calls.{IsAligned, IsPiece};
+ghost use Rattle.shared_disk.specs.Step.{ResultFaults};
 ghost use Rattle.pool_session.specs.Fault.{IsFault};
 ghost use Rattle.pool_session.specs.Image.{HoldsFlat, ReadsFlat, file_of};
 ghost use Rattle.shared_disk.specs.Calls.{IsSame, Told};
@@ -228,6 +229,7 @@ fn read_front<D: SharedDisk>(
     requires within { at + count ≤ image.now.capacity }
     requires room { count ≤ length room.old }
     ensures count { D.faults disk.old ≤ D.faults disk.new }
+    ensures faults { ResultFaults (D.faults disk.old) (D.faults disk.new) result }
     ensures read { MatchResult result
         (λ _. Told (D.content disk.old) (D.content disk.new) (λ d e. IsSame d e × ReadsFile d host (file_of image.now) (at / 512) (take count room.new)))
         (λ _. Told (D.content disk.old) (D.content disk.new) IsSame) }

@@ -1,8 +1,7 @@
 // The stages of an opening, and one step.
 ghost use Rattle.std.specs.Prelude.{◌≡◌, ℕ, false};
 ghost use Rattle.shared_disk.specs.Calls.{Told};
-ghost use Rattle.shared_disk.specs.Refusal.{IsRisen};
-ghost use Rattle.shared_disk.specs.Step.{EndsOnlyBy, StepCounts};
+ghost use Rattle.shared_disk.specs.Step.{EndsOnlyBy, StepCounts, TurnFaults};
 ghost use Rattle.qcow_layer.specs.Left.{Falls, StaysInside};
 ghost use Rattle.qcow_layer.specs.Stages.{IsOpeningRefusal, Steps, takes_map, turn_of};
 
@@ -36,7 +35,7 @@ pub(crate) enum Stage {
 /// What comes of a sector is the next stage, the layer or its first fault.
 pub(crate) fn passed(target: Target, passed: Passed) -> Turn<Stage, Work, ()>
     ensures turn { result ≡ turn_of target passed }
-    ensures cause { (before after : ℕ) → EndsOnlyBy (IsRisen before after) result }
+    ensures cause { (before after : ℕ) → after ≡ before → TurnFaults before after result }
     ensures refusals { EndsOnlyBy (IsOpeningRefusal false) result }
 {
     match passed {

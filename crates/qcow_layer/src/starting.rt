@@ -3,8 +3,7 @@ ghost use Rattle.std.specs.Prelude.{ℕ, ◌≡◌, ◌%◌, ◌^◌, ◌≤◌,
 ghost use Rattle.shared_disk.specs.Calls.{Told};
 ghost use Rattle.sd_names.specs.Turn.{MatchTurn};
 ghost use Rattle.shared_disk.specs.Content.{Content};
-ghost use Rattle.shared_disk.specs.Refusal.{IsRisen};
-ghost use Rattle.shared_disk.specs.Step.{EndsOnlyBy, StepCounts};
+ghost use Rattle.shared_disk.specs.Step.{EndsOnlyBy, StepCounts, TurnFaults};
 ghost use Rattle.qcow_layer.specs.Left.{Falls, StaysInside};
 ghost use Rattle.qcow_layer.specs.Stages.{BeginsWork, IsGone, IsOpeningRefusal, Steps, roof};
 
@@ -63,7 +62,7 @@ fn begin_work(
     requires few { header.l1_size < 2 ^ 32 }
     requires l1_aligned { header.l1_table_offset % 2 ^ header.cluster_bits ≡ 0 }
     requires table_aligned { header.refcount_table_offset % 2 ^ header.cluster_bits ≡ 0 }
-    ensures cause { (before after : ℕ) → EndsOnlyBy (IsRisen before after) result }
+    ensures cause { (before after : ℕ) → after ≡ before → TurnFaults before after result }
     ensures refusals { EndsOnlyBy (IsOpeningRefusal true) result }
     ensures gone { (d : Content) → MatchTurn result (λ _. Unit {0}) (λ _. Unit {0}) (λ _ refusal. IsGone target refusal d) }
     ensures inside { StaysInside (Stage.Sized length) result }

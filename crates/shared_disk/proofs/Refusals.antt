@@ -1,5 +1,5 @@
 -- Which answers of a disk its refusals stand for.
-use Rattle.std.proofs.Common.{◌≡◌, ℕ, refl, sym, ap, ◌∙◌}
+use Rattle.std.proofs.Common.{◌≡◌, ◌≢◌, ℕ, refl, sym, ap, ◌∙◌}
 use Rattle.sd_names.specs.declared.absence.Absence.{Absence}
 use Rattle.sd_names.specs.declared.absence.Absence.TheVariants as absence
 use Rattle.sd_names.specs.declared.refusal.Refusal.{Refusal}
@@ -39,9 +39,9 @@ of_disk OutOfFile n = tt
 of_disk NotEmpty n = tt
 of_disk Failed n = tt
 
-pub risen : (a : DiskAnswer) (before after : ℕ) → (a ≡ Failed → Rose before after) → IsRisen before after (refusal_of a after)
-risen NoFile before after rose = tt
-risen Exists before after rose = tt
-risen OutOfFile before after rose = tt
-risen NotEmpty before after rose = tt
-risen Failed before after rose = (rose refl, refl)
+pub risen : (a : DiskAnswer) (before after : ℕ) → (a ≡ Failed → Rose before after) → (a ≢ Failed → after ≡ before) → IsRisen before after (refusal_of a after)
+risen NoFile before after rose kept = kept (λ e. cc)
+risen Exists before after rose kept = kept (λ e. cc)
+risen OutOfFile before after rose kept = kept (λ e. cc)
+risen NotEmpty before after rose kept = kept (λ e. cc)
+risen Failed before after rose kept = (rose refl, refl)

@@ -14,7 +14,8 @@ use Rattle.shared_disk.specs.declared.disk.DiskAnswer.{DiskAnswer}
 use Rattle.shared_disk.specs.declared.disk.DiskAnswer.TheVariants.{NoFile, Exists, OutOfFile, NotEmpty, Failed}
 use Rattle.shared_disk.specs.declared.disk.Exchanged.{Exchanged}
 use Rattle.shared_disk.specs.declared.disk.Exchanged.TheVariants.{Done, Found}
-use Rattle.shared_disk.specs.Calls.{Creates, IsCreated, IsPut, IsSame, Syncs, WriteAt, created, parent_of, sectors_in, synced, wrote}
+use Rattle.sd_names.specs.Place.{parent_of}
+use Rattle.shared_disk.specs.Calls.{Creates, IsCreated, IsPut, IsSame, Syncs, WriteAt, created, sectors_in, synced, wrote}
 use Rattle.shared_disk.specs.Changes.{exchanged, grown, raised}
 use Rattle.shared_disk.specs.Content.{Content, File, Loose, own_of, sector_of, seen, writes, zero_sector}
 use Rattle.shared_disk.specs.Crash.{DownLeaves, IsAlso, IsDownFile, IsDownSector, IsFileOutcome, IsOutcome, IsOutcomeSector, IsSector}

@@ -8,7 +8,8 @@ use Rattle.sd_names.specs.declared.place.Dir.TheVariants.{Root, Domain, DomMd, I
 use Rattle.sd_names.specs.declared.place.Place.{Place}
 use Rattle.shared_disk.specs.declared.disk.DiskAnswer.{DiskAnswer}
 use Rattle.shared_disk.specs.declared.disk.DiskAnswer.TheVariants.{NoFile, Exists, OutOfFile, NotEmpty, Failed}
-use Rattle.shared_disk.specs.Calls.{IsDirMade, IsDirPut, MakesDir, parent_of}
+use Rattle.sd_names.specs.Place.{parent_of}
+use Rattle.shared_disk.specs.Calls.{IsDirMade, IsDirPut, MakesDir}
 use Rattle.shared_disk.specs.Content.{Content, File, IsEmpty}
 use Rattle.shared_disk.specs.NameCalls.{AreImageDirs, HasEntry, IsDirMoved, IsDirRemoved, MovesDir, RemovesDir, ShowsDir, place_in}
 use Rattle.shared_disk.specs.Places.{dir_is}

@@ -1,7 +1,7 @@
 -- What each call of a disk may answer, and what it leaves.
 use Rattle.std.specs.Prelude.{◌≡◌, ◌≢◌, ◌⊎◌, ℕ, ◌+◌, ◌-◌, ◌*◌, ◌/◌, ◌%◌, ◌^◌, ◌<◌, ◌≤◌, min, Bool, true, false, List, [], ◌++◌, length, drop, Option, Some, None, Result, Ok, Err, IsErrOf, unwrap_or}
+use Rattle.sd_names.specs.Place.{parent_of}
 use Rattle.sd_names.specs.declared.place.Dir.{Dir}
-use Rattle.sd_names.specs.declared.place.Dir.TheVariants.{Root, Domain, DomMd, Images, Image, Removed, Master, Tasks}
 use Rattle.sd_names.specs.declared.place.Place.{Place}
 use Rattle.shared_disk.specs.declared.disk.DiskAnswer.{DiskAnswer}
 use Rattle.shared_disk.specs.declared.disk.DiskAnswer.TheVariants.{NoFile, Exists, OutOfFile, NotEmpty, Failed}
@@ -14,17 +14,6 @@ IsAligned n = n % 512 ≡ 0
 -- what one call carries: 512 to 65,536 bytes, a multiple of 512
 abbrev pub IsPiece : ℕ → Type 0
 IsPiece n = (n % 512 ≡ 0) × (512 ≤ n) × (n ≤ 65536)
-
--- the folder in which a folder stands; Root stands in itself
-abbrev pub parent_of : Dir → Dir
-parent_of Root = Root
-parent_of (Domain sd) = Root
-parent_of (DomMd sd) = Domain sd
-parent_of (Images sd) = Domain sd
-parent_of (Image sd image) = Images sd
-parent_of (Removed sd image) = Images sd
-parent_of (Master sd) = Domain sd
-parent_of (Tasks sd) = Master sd
 
 -- how many sectors some bytes are
 abbrev pub sectors_in : List ℕ → ℕ
@@ -144,8 +133,10 @@ Told {A} before after R = (d : A) → before ≡ Some d → (e : A) × (after �
 abbrev pub Rose : ℕ → ℕ → Type 0
 Rose before after = (before < after) ⊎ (after ≡ 2 ^ 64 - 1)
 
--- The count of faults never falls and never passes 2^64 - 1; `Failed` is answered only where it rose.
+-- The count of faults never falls and never passes 2^64 - 1. `Failed` is answered only where it rose, and a call that
+-- answers anything else, above all one that did its work, leaves the count as it was.
 pub record HasCause {T : Type 0} (before after : ℕ) (result : Result T DiskAnswer) : Type 0 where
   pub no_less : before ≤ after
   pub fits : after < 2 ^ 64
   pub failed : IsErrOf result Failed → Rose before after
+  pub uncounted : (IsErrOf result Failed → ⊥) → after ≡ before

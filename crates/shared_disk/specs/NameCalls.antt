@@ -8,7 +8,8 @@ use Rattle.sd_names.specs.declared.place.Name.{Name}
 use Rattle.sd_names.specs.declared.place.Place.{Place}
 use Rattle.shared_disk.specs.declared.disk.DiskAnswer.{DiskAnswer}
 use Rattle.shared_disk.specs.declared.disk.DiskAnswer.TheVariants.{NoFile, Exists, OutOfFile, NotEmpty, Failed}
-use Rattle.shared_disk.specs.Calls.{IsPut, IsDirPut, IsSame, parent_of}
+use Rattle.sd_names.specs.Place.{parent_of}
+use Rattle.shared_disk.specs.Calls.{IsPut, IsDirPut, IsSame}
 use Rattle.shared_disk.specs.Content.{Content, File}
 
 -- the place of a name in a folder

@@ -15,7 +15,7 @@ refusal_of OutOfFile faults = Vanished absence.OutOfFile
 refusal_of NotEmpty faults = Vanished absence.NotEmpty
 refusal_of Failed faults = DiskFault faults
 
--- a fault is answered only where the count rose, and with the new count
+-- a fault is answered only where the count rose, and with the new count; any other refusal leaves the count
 abbrev pub IsRisen : ℕ → ℕ → Refusal → Type 0
 IsRisen before after (DiskFault n) = Rose before after × (n ≡ after)
-IsRisen before after _ = Unit {0}
+IsRisen before after _ = after ≡ before

@@ -9,18 +9,27 @@ use Rattle.sd_names.specs.declared.turn.Turn.TheVariants.{Ended}
 use Rattle.shared_disk.specs.Refusal.{IsRisen, refusal_of}
 use Rattle.shared_disk.specs.declared.disk.DiskAnswer.{DiskAnswer}
 
--- What a step does to the counts of the disk, on every disk: at most one call is made, the count of faults never falls,
--- and a fault is answered only where the count rose in this step or stands at its end, with the count after it.
+-- What a step does to the count of faults: a fault is answered only where the count rose or stands at its end, with the
+-- count after it, and any other turn leaves the count as it was, so that no fault of the disk is dropped.
+abbrev pub TurnFaults : {S T B : Type 0} → ℕ → ℕ → Turn S T B → Type 0
+TurnFaults faults faults' turn = MatchTurn turn (λ _. faults' ≡ faults) (λ _. faults' ≡ faults) (λ _ refusal. IsRisen faults faults' refusal)
+
+-- the same of work that answers a result, in however many calls
+abbrev pub ResultFaults : {T : Type 0} → ℕ → ℕ → Result T Refusal → Type 0
+ResultFaults faults faults' result = MatchResult result (λ _. faults' ≡ faults) (λ refusal. IsRisen faults faults' refusal)
+
+-- What a step does to the counts of the disk, on every disk: at most one call is made, and the count of faults never falls
+-- and tells of each fault.
 pub record StepCounts {S T B : Type 0} (faults faults' calls calls' : ℕ) (turn : Turn S T B) : Type 0 where
   pub one_call : calls' ≤ calls + 1
   pub no_less : faults ≤ faults'
-  pub cause : MatchTurn turn (λ _. Unit {0}) (λ _. Unit {0}) (λ _ refusal. IsRisen faults faults' refusal)
+  pub cause : TurnFaults faults faults' turn
 
 -- the same of what answers a result
 pub record ResultCounts {T : Type 0} (faults faults' calls calls' : ℕ) (result : Result T Refusal) : Type 0 where
   pub one_call : calls' ≤ calls + 1
   pub no_less : faults ≤ faults'
-  pub cause : MatchResult result (λ _. Unit {0}) (λ refusal. IsRisen faults faults' refusal)
+  pub cause : ResultFaults faults faults' result
 
 -- a refusal that stands for an answer of the disk: 120 or 122
 abbrev pub IsDiskRefusal : Refusal → Type 0

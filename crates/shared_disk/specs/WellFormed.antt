@@ -3,7 +3,7 @@ use Rattle.std.specs.Prelude.{◌≡◌, ℕ, ◌<◌, ◌≤◌, Contains, true
 use Rattle.sd_names.specs.declared.place.Dir.{Dir}
 use Rattle.sd_names.specs.declared.place.Dir.TheVariants.{Root}
 use Rattle.sd_names.specs.declared.place.Place.{Place}
-use Rattle.shared_disk.specs.Calls.{parent_of}
+use Rattle.sd_names.specs.Place.{parent_of}
 use Rattle.shared_disk.specs.Content.{Content, File, Loose}
 use Rattle.shared_disk.specs.Crash.{IsSector}
 

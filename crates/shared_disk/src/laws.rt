@@ -163,5 +163,5 @@ pub fn what_a_host_sees_stays()
 pub fn a_refusal_stands_for_one_answer()
     ensures one { (a b : DiskAnswer) (m n : ℕ) → refusal_of a m ≡ refusal_of b n → a ≡ b }
     ensures of_disk { (a : DiskAnswer) (n : ℕ) → IsDiskRefusal (refusal_of a n) }
-    ensures risen { (a : DiskAnswer) (before after : ℕ) → (a ≡ Failed → Rose before after) → IsRisen before after (refusal_of a after) }
+    ensures risen { (a : DiskAnswer) (before after : ℕ) → (a ≡ Failed → Rose before after) → (a ≢ Failed → after ≡ before) → IsRisen before after (refusal_of a after) }
 {}

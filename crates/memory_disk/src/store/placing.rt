@@ -7,7 +7,7 @@ ghost use Rattle.memory_disk.specs.Sectors.{sector_at, kept_count, kept_room};
 ghost use Rattle.memory_disk.specs.declared.entry.FileEntry.{FileEntry};
 ghost use Rattle.memory_disk.specs.Store.{found, has_dir, loose_of, slot, slot_size};
 
-use super::{Store, is_dir, parent, sector};
+use super::{Store, is_dir, sector};
 use crate::entry::{FileEntry, Write};
 use crate::files::Files;
 use crate::sector_map::{MEDIUM, Sectors};
@@ -113,8 +113,8 @@ impl Store {
         ensures room { self.new.room ≡ self.old.room }
         ensures folder { has_dir self.new.dirs.items dir ≡ true }
     {
-        self.add_dir(parent(parent(dir)));
-        self.add_dir(parent(dir));
+        self.add_dir(dir.parent().parent());
+        self.add_dir(dir.parent());
         self.add_dir(dir);
     }
 

@@ -1,5 +1,6 @@
 use Rattle.std.proofs.Common.{◌≡◌, List, Err, sym, ◌∙◌, ap, subst, inr, refl, arith, rules}
 use Rattle.sd_names.specs.declared.place.Dir.{Dir}
+use Rattle.shared_disk.specs.Refusal.{IsRisen}
 use Rattle.pool_session.specs.Folders.{HasSome, IsAmong, with_made}
 use Rattle.pool_session.proofs.FaultLemmas.{fault_since}
 use Rattle.pool_session.proofs.FolderLemmas.{among_rest, left_at, not_gone, some_one}
@@ -14,7 +15,7 @@ loop-dir-preserved g c =
       _,
       orderly.3,
       sym (ap (with_made known) left) ∙ c.loop-dir.invariant.2,
-      omega arith,
+      c.in_ok-make_dir.ensures.faults ∙ c.loop-dir.invariant.3,
       λ e some. c.loop-dir.invariant.4 e (subst (λ (dirs : List Dir). HasSome known dirs e) (sym left) (inr some)),
       λ d tells root.
           let before = c.loop-dir.invariant.5 d tells root in
@@ -48,7 +49,7 @@ returns-in_err-make_dir-clause-content g c d tells root =
       failed.0,
       failed.1,
       rw is (
-        fault_since (g.D.SharedDisk.faults c.args.disk.now) (g.D.SharedDisk.faults c.loop-dir.disk) (g.D.SharedDisk.faults c.make_dir.new.disk) _ c.loop-dir.invariant.3 failed.2.0,
+        fault_since (g.D.SharedDisk.faults c.args.disk.now) (g.D.SharedDisk.faults c.loop-dir.disk) (g.D.SharedDisk.faults c.make_dir.new.disk) _ (omega (arith, c.loop-dir.invariant.3)) failed.2.0,
         some,
       ),
     )
@@ -69,3 +70,8 @@ returns-in_err-make_dir-clause-made g c =
       after.1,
       next_refused c.args.dirs.now known _ _ d before.0 after.0 rooted orderly.2 c.in_err-make_dir.field-0.0 (well c.args.disk.now d tells) (well c.loop-dir.disk before.0 before.1) orderly.1 progress after.2,
     ))
+
+pub returns-in_err-make_dir-clause-faults : goal.returns-in_err-make_dir-clause-faults
+returns-in_err-make_dir-clause-faults g c =
+    let is : c.from_residual.result ≡ Err c.in_err-make_dir.field-0.0 = search rules in
+    rw is (subst (λ n. IsRisen n (g.D.SharedDisk.faults c.make_dir.new.disk) c.in_err-make_dir.field-0.0) c.loop-dir.invariant.3 c.in_err-make_dir.ensures.faults)

@@ -1,4 +1,4 @@
-use Rattle.std.proofs.Common.{◌≡◌, ◌≤◌, ◌∷◌, [], List, Some, drop, false}
+use Rattle.std.proofs.Common.{◌≡◌, ◌∷◌, [], List, Some, drop, false}
 use Rattle.sd_names.specs.declared.place.Dir.{Dir}
 use Rattle.sd_names.specs.declared.place.Dir.TheVariants.{Root}
 use Rattle.shared_disk.specs.Content.{Content}
@@ -13,7 +13,7 @@ invariant-loop-dir g l =
     let faults = g.D.SharedDisk.faults in
     (known : List Dir) × IsOrderly known (drop l.dir-index l.dirs)
     × (with_made known (drop l.dir-index l.dirs) ≡ with_made (Root ∷ []) l.dirs)
-    × (faults l.fn.disk ≤ faults l.disk)
+    × (faults l.disk ≡ faults l.fn.disk)
     × ((e : Content) → HasSome known (drop l.dir-index l.dirs) e → HasSome (Root ∷ []) l.dirs e)
     × ((d : Content) → content l.fn.disk ≡ Some d → HasJust (Root ∷ []) d → (e : Content) × (content l.disk ≡ Some e) × HasJust known e)
     × ((d : Content) → content l.fn.disk ≡ Some d → (e : Content) × (content l.disk ≡ Some e)

@@ -1,6 +1,7 @@
 use Rattle.std.proofs.Common.{◌≡◌, ◌⊎◌, ◌/◌, Ok, Some, refl, subst, sym, inr, arith}
 use Rattle.shared_disk.specs.Content.{Content}
 use Rattle.shared_disk.specs.Calls.{IsCreated, IsPut, Syncs, created, synced}
+use Rattle.shared_disk.specs.Step.{ResultFaults}
 use Rattle.pool_session.proofs.FaultLemmas.{ends_since, fault_told}
 use Rattle.pool_session.proofs.ImageLemmas.{create_failed, put_twice}
 use Rattle.pool_session.specs.FileCalls.{FileMade}
@@ -40,3 +41,6 @@ returns-in-Ok-clause-made g c =
     ok_since c.sync_file.result (content c.args.disk.now) (content c.create.new.self) (content c.sync_file.new.disk)
     (λ d e. IsCreated d host place size e) (λ d e. Syncs d host place (Ok tt) e) (FileMade host place size)
     (file_made host place size) c.in-Ok.ensures.call c.sync_file.ensures.synced
+
+pub returns-in-Ok-clause-faults : goal.returns-in-Ok-clause-faults
+returns-in-Ok-clause-faults g c = subst (λ n. ResultFaults n (g.D.SharedDisk.faults c.sync_file.new.disk) c.sync_file.result) (c.in-Ok.ensures.cause.uncounted (λ e. cc)) c.sync_file.ensures.faults

@@ -21,4 +21,4 @@ returns-in-Err-read-clause-content g c d tells =
     (call.0, call.1, sized_faulted c.args.target c.args.host c.args.length c.in-Ok.head c.in-Err-read.fault d call.0 call.2.0 call.2.1 c.in-Err-read.ensures.value)
 
 pub returns-in-Ok-read-clause-counts : goal.returns-in-Ok-read-clause-counts
-returns-in-Ok-read-clause-counts g c = record { one_call = c.in-Ok.ensures.counts.one_call; no_less = c.in-Ok.ensures.counts.no_less; cause = c.begin_work.ensures.cause _ _ }
+returns-in-Ok-read-clause-counts g c = record { one_call = c.in-Ok.ensures.counts.one_call; no_less = c.in-Ok.ensures.counts.no_less; cause = c.begin_work.ensures.cause _ _ c.in-Ok.ensures.counts.cause }

@@ -1,11 +1,22 @@
-use Rattle.std.proofs.Common.{subst, ap, ◌<◌, min, sym, ◌+◌, ◌-◌, ◌^◌, ◌∙◌, ◌≡◌}
+use Rattle.std.proofs.Common.{arith, subst, ap, ◌<◌, min, sym, ◌+◌, ◌-◌, ◌^◌, ◌∙◌, ◌≡◌}
 use Rattle.std.proofs.lemmas.List.{get_or_default}
 use Rattle.std.proofs.lemmas.Bool.{false≢true}
 use Rattle.shared_disk.specs.Limits.{adds_at_most}
+use Rattle.memory_disk.proofs.Causes.{cause_by, cause_counted}
 use Rattle.memory_disk.proofs.Limits.{counted_by, keeps, keeps_listed}
 use Rattle.shared_disk.proofs.WellFormed.{exchange_keeps}
 use Rattle.memory_disk.specs.Held.{held}
 use Rattle.memory_disk.proofs.in_memory.InMemorySharedDisk.exchange.Goals as goal
+
+pub returns-then-fails-clause-cause : goal.returns-then-fails-clause-cause
+returns-then-fails-clause-cause o c = cause_counted _ _ (rw c.if-fails.true at c.fails.ensures.faults) (omega arith)
+
+pub returns-clause-cause : goal.returns-clause-cause
+returns-clause-cause o c =
+    let same : c.fails.new.self.faults ≡ c.args.self.now.faults = rw c.if-fails.false at c.fails.ensures.faults in
+    cause_by _ _ _ (omega arith)
+    (counted_by _ _ c.exchange-answer.result c.map.result _ c.map.ensures.cases c.map.ensures.variant (record { failed = λ e. c.count.ensures.failed e ∙ ap (λ n. min (n + 1) (2 ^ 64 - 1)) same; other = λ h. c.count.ensures.other h ∙ same }))
+    (omega (arith, c.count.ensures.no_less)) (omega arith)
 
 pub returns-then-fails-clause-limits : goal.returns-then-fails-clause-limits
 returns-then-fails-clause-limits o c =

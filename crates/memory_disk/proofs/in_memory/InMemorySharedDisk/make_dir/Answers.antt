@@ -8,12 +8,12 @@ use Rattle.memory_disk.proofs.Limits.{keeps, keeps_listed}
 use Rattle.memory_disk.proofs.in_memory.InMemorySharedDisk.make_dir.Goals as goal
 
 pub returns-then-fails-clause-cause : goal.returns-then-fails-clause-cause
-returns-then-fails-clause-cause o c = cause_counted _ _ _ (rw c.if-fails.true at c.fails.ensures.faults) (omega arith)
+returns-then-fails-clause-cause o c = cause_counted _ _ (rw c.if-fails.true at c.fails.ensures.faults) (omega arith)
 
 pub returns-clause-cause : goal.returns-clause-cause
 returns-clause-cause o c =
     let same : c.fails.new.self.faults ≡ c.args.self.now.faults = rw c.if-fails.false at c.fails.ensures.faults in
-    cause_exact _ _ _ (omega arith) (λ f. c.count.ensures.failed f ∙ ap (λ n. min (n + 1) (2 ^ 64 - 1)) same) (omega (arith, c.count.ensures.no_less)) (omega arith)
+    cause_exact _ _ _ (omega arith) (λ f. c.count.ensures.failed f ∙ ap (λ n. min (n + 1) (2 ^ 64 - 1)) same) (λ h. c.count.ensures.other h ∙ same) (omega (arith, c.count.ensures.no_less)) (omega arith)
 
 pub returns-then-fails-clause-limits : goal.returns-then-fails-clause-limits
 returns-then-fails-clause-limits o c =

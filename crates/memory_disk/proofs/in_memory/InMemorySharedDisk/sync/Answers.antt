@@ -8,7 +8,7 @@ use Rattle.memory_disk.specs.Held.{held}
 use Rattle.memory_disk.proofs.in_memory.InMemorySharedDisk.sync.Goals as goal
 
 pub returns-then-fails-clause-cause : goal.returns-then-fails-clause-cause
-returns-then-fails-clause-cause o c = cause_counted _ _ _ (rw c.if-fails.true at c.fails.ensures.faults) (omega arith)
+returns-then-fails-clause-cause o c = cause_counted _ _ (rw c.if-fails.true at c.fails.ensures.faults) (omega arith)
 
 pub returns-clause-cause : goal.returns-clause-cause
 returns-clause-cause o c = cause_none _ _ _ (rw c.if-fails.false at c.fails.ensures.faults) (omega arith) c.sync.ensures.failed

@@ -1,6 +1,7 @@
 use Rattle.std.proofs.Common.{true, refl, ap, subst, ◌∙◌}
 use Rattle.sd_names.specs.declared.place.Dir.{Dir}
-use Rattle.shared_disk.specs.Calls.{IsDirPut, parent_of}
+use Rattle.sd_names.specs.Place.{parent_of}
+use Rattle.shared_disk.specs.Calls.{IsDirPut}
 use Rattle.memory_disk.specs.Held.{held}
 use Rattle.memory_disk.proofs.Placing.{path_made}
 use Rattle.memory_disk.proofs.store.Store.add_dirs.Goals as goal

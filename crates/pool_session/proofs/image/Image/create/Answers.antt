@@ -2,6 +2,7 @@ use Rattle.std.proofs.Common.{◌≡◌, ◌⊎◌, ◌/◌, ◌∷◌, [], true
 use Rattle.sd_names.specs.declared.place.Dir.TheVariants.{Root, Image as ImageDir}
 use Rattle.sd_names.specs.declared.place.Place.{Place}
 use Rattle.shared_disk.specs.Content.{Content, zero_sector}
+use Rattle.shared_disk.specs.Step.{ResultFaults}
 use Rattle.pool_session.specs.Fault.{IsFault, SameOrFault}
 use Rattle.shared_disk.specs.Calls.{IsPut, created, synced}
 use Rattle.pool_session.specs.Image.{HasPartOfImage, HoldsFlat, file_of}
@@ -64,3 +65,11 @@ returns-in_err-make_dir-clause-content g c =
     λ d tells has.
     let made = c.in_err-make_dir.ensures.content d dirs tells has (images_among image.sd) (image_not_among image.sd image.image) in
     (made.0, made.1, rw is (made.2.0, inl made.2.1))
+
+pub returns-clause-faults : goal.returns-clause-faults
+returns-clause-faults g c = subst (λ n. ResultFaults n (g.D.SharedDisk.faults c.create_file.new.disk) c.create_file.result) c.in_ok-make_dir.ensures.faults c.create_file.ensures.faults
+
+pub returns-in_err-make_dir-clause-faults : goal.returns-in_err-make_dir-clause-faults
+returns-in_err-make_dir-clause-faults g c =
+    let is : c.from_residual.result ≡ Err c.in_err-make_dir.field-0.0 = search rules in
+    rw is c.in_err-make_dir.ensures.faults

@@ -14,7 +14,7 @@ loop-next-preserved g c =
     let counts = c.in-More.ensures.counts in (
       nears.0.from ∙ c.loop-next.invariant.0,
       nears.0.place ∙ c.loop-next.invariant.1,
-      omega (arith, counts.no_less, c.loop-next.invariant.2),
+      counts.cause ∙ c.loop-next.invariant.2,
       λ d flat one tells holds.
           let knows = c.loop-next.invariant.3 d flat one tells holds in
           let step = c.in-More.ensures.content knows.0 knows.1 in
@@ -53,7 +53,7 @@ returns-in-Ended-clause-content g c d flat one tells holds =
     let mixed = ended_mixed c.args.self.now flat c.loop-next.write c.args.at (g.D.SharedDisk.faults c.step.new.disk) c.args.part.now knows.0 step.0 c.loop-next.invariant.0 c.loop-next.invariant.1
     c.requires.aligned c.requires.piece.0 c.requires.within c.loop-next.write.stage c.in-Ended.refusal knows.2 steps in
     let cause = subst (IsRisen (g.D.SharedDisk.faults c.loop-next.disk) (g.D.SharedDisk.faults c.step.new.disk)) mixed.0 c.in-Ended.ensures.counts.cause in
-    (step.0, step.1, ((rose_since (g.D.SharedDisk.faults c.args.disk.now) (g.D.SharedDisk.faults c.loop-next.disk) (g.D.SharedDisk.faults c.step.new.disk) c.loop-next.invariant.2 cause.0, mixed.0), mixed.1.0, mixed.1.1, mixed.1.2))
+    (step.0, step.1, ((rose_since (g.D.SharedDisk.faults c.args.disk.now) (g.D.SharedDisk.faults c.loop-next.disk) (g.D.SharedDisk.faults c.step.new.disk) (omega (arith, c.loop-next.invariant.2)) cause.0, mixed.0), mixed.1.0, mixed.1.1, mixed.1.2))
 
 pub returns-in-Done-clause-written : goal.returns-in-Done-clause-written
 returns-in-Done-clause-written g c d tells =
@@ -74,3 +74,9 @@ returns-in-Ended-clause-written g c d tells =
       ended_written c.loop-next.write c.args.host c.args.at (g.D.SharedDisk.faults c.step.new.disk) c.args.self.now.capacity (file_of c.args.self.now) c.args.part.now d sofar.0 step.0
           c.loop-next.invariant.0 c.loop-next.invariant.1 c.requires.within c.loop-next.write.stage c.in-Ended.refusal sofar.2 step.2,
     )
+
+pub returns-in-Done-clause-faults : goal.returns-in-Done-clause-faults
+returns-in-Done-clause-faults g c = c.in-Done.ensures.counts.cause ∙ c.loop-next.invariant.2
+
+pub returns-in-Ended-clause-faults : goal.returns-in-Ended-clause-faults
+returns-in-Ended-clause-faults g c = subst (λ n. IsRisen n (g.D.SharedDisk.faults c.step.new.disk) c.in-Ended.refusal) c.loop-next.invariant.2 c.in-Ended.ensures.counts.cause

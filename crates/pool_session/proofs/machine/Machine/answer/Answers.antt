@@ -1,4 +1,4 @@
-use Rattle.std.proofs.Common.{refl, take, arith}
+use Rattle.std.proofs.Common.{refl, take}
 use Rattle.script_lines.specs.Event.{event_by}
 use Rattle.script_lines.specs.declared.reply.Reply.TheVariants.{Refused}
 use Rattle.pool_session.specs.Answer.{Answer, answer_in}
@@ -33,7 +33,7 @@ returns-in-Err-clause-content g c d flat refusals tells stands =
       flat,
       tells,
       stands,
-      answers_refused s (state_after s c.args.self.now.stage flat (g.D.SharedDisk.faults c.args.disk.now) answer) (asked_of (event_by c.args.line.now)) c.in-Err.refusal answer c.in-Err.ensures.due (refl, omega arith, refl),
+      answers_refused s (state_after s c.args.self.now.stage flat (g.D.SharedDisk.faults c.args.disk.now) answer) (asked_of (event_by c.args.line.now)) c.in-Err.refusal answer c.in-Err.ensures.due (refl, refl, refl),
     )
 
 pub returns-in-Ok-clause-any : goal.returns-in-Ok-clause-any

@@ -18,7 +18,7 @@ returns-in-Ok-clause-content g c bytes d flat refusals tells stands =
       read.0,
       stands,
       read_done c.args.self.now.stage flat (g.D.SharedDisk.faults c.args.disk.now) refusals c.args.image c.args.at (g.D.SharedDisk.faults c.read_front.new.disk)
-          c.part_refusal.result c.in_default.not-Some c.in-Ok.ensures.count c.args.count bytes (take c.args.count c.read_front.new.room) c.part_refusal.ensures.refusal long read.1,
+          c.part_refusal.result c.in_default.not-Some c.in-Ok.ensures.faults c.args.count bytes (take c.args.count c.read_front.new.room) c.part_refusal.ensures.refusal long read.1,
     )
 
 pub returns-in-Err-clause-content : goal.returns-in-Err-clause-content

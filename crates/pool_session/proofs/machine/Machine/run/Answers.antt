@@ -1,11 +1,11 @@
-use Rattle.std.proofs.Common.{refl, arith}
+use Rattle.std.proofs.Common.{refl}
 use Rattle.pool_session.proofs.machine.Machine.run.Goals as goal
 
 pub returns-in-Boot-clause-content : goal.returns-in-Boot-clause-content
-returns-in-Boot-clause-content g c = rw c.in-Boot.is (λ d flat refusals tells stands. (d, flat, tells, stands, (refl, omega arith, refl)))
+returns-in-Boot-clause-content g c = rw c.in-Boot.is (λ d flat refusals tells stands. (d, flat, tells, stands, (refl, refl, refl)))
 
 pub returns-in-SpmStart-clause-content : goal.returns-in-SpmStart-clause-content
-returns-in-SpmStart-clause-content g c = rw c.in-SpmStart.is (λ d flat refusals tells stands. (d, flat, tells, stands, (refl, omega arith, refl)))
+returns-in-SpmStart-clause-content g c = rw c.in-SpmStart.is (λ d flat refusals tells stands. (d, flat, tells, stands, (refl, refl, refl)))
 
 pub returns-in-MakePool-clause-content : goal.returns-in-MakePool-clause-content
 returns-in-MakePool-clause-content g c = rw c.in-MakePool.is (λ d flat refusals tells stands. c.make_pool.ensures.content c.args.bytes.now c.args.room.now d flat refusals tells stands)

@@ -16,7 +16,7 @@ returns-in-Ok-clause-content g c room d flat refusals tells stands =
       done.1,
       done.2,
       write_done c.args.self.now.stage flat (g.D.SharedDisk.faults c.args.disk.now) refusals c.args.image c.args.at (g.D.SharedDisk.faults c.write.new.disk)
-          c.part_refusal.result c.in_default.not-Some c.in-Ok.ensures.count c.args.part.now (take 0 room) c.part_refusal.ensures.refusal,
+          c.part_refusal.result c.in_default.not-Some c.in-Ok.ensures.faults c.args.part.now (take 0 room) c.part_refusal.ensures.refusal,
     )
 
 pub returns-in-Err-clause-content : goal.returns-in-Err-clause-content
