@@ -32,6 +32,12 @@ work_kept layer = layer.work
 abbrev pub volume_kept : Layer → Id
 volume_kept layer = layer.target.volume
 
+abbrev pub place_kept : Layer → Place
+place_kept layer = layer.target.place
+
+abbrev pub capacity_kept : Layer → ℕ
+capacity_kept layer = layer.target.capacity
+
 abbrev pub header_kept : Layer → Header
 header_kept layer = layer.work.header
 

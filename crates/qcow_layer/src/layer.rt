@@ -4,7 +4,7 @@ ghost use Rattle.std.specs.Prelude.{◌≡◌};
 use crate::stages::Target;
 use layer_walk::Work;
 use qcow_format::Header;
-use sd_names::Id;
+use sd_names::{Id, Place};
 
 /// A sound layer of a volume's image, as its file has it.
 #[derive(Debug, Drop)]
@@ -14,13 +14,27 @@ pub struct Layer {
 }
 
 impl Layer {
-    ghost use Rattle.qcow_layer.specs.Opening.{header_kept, parent_kept, volume_kept};
+    ghost use Rattle.qcow_layer.specs.Opening.{capacity_kept, header_kept, parent_kept, place_kept, volume_kept};
 
     /// The volume whose layer it is.
     pub fn volume(&self) -> Id
         ensures { result ≡ volume_kept self.now }
     {
         self.target.volume
+    }
+
+    /// The place of its file.
+    pub fn place(&self) -> Place
+        ensures { result ≡ place_kept self.now }
+    {
+        self.target.place
+    }
+
+    /// The capacity of the volume, in bytes.
+    pub fn capacity(&self) -> u64
+        ensures { result ≡ capacity_kept self.now }
+    {
+        self.target.capacity
     }
 
     /// The header that the layer keeps.
