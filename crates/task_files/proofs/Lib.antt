@@ -1,0 +1,4 @@
+pub mod Lives
+mod Calls
+mod Found
+mod Steps

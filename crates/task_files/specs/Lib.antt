@@ -1,0 +1,4 @@
+pub mod TaskFile
+pub mod Read
+pub mod Write
+pub mod Remove
