@@ -82,7 +82,7 @@ reading_among r all (w ∷ ws) known = go (reads_or_not r all known w) (reading_
     go (inr none) (inl a) = inl a
     go (inr none) (inr rest) = inr (λ v h vs a. other v vs (cons_cases w v ws h) none (λ g. rest v g vs a) a)
 
-open_path : (r : Records) (all : List Id) → ((v : Id) (x : VolumeRecord) → r v ≡ Some x → Contains all v) → (path : List Id) × IsOpenPath r path
+pub open_path : (r : Records) (all : List Id) → ((v : Id) (x : VolumeRecord) → r v ≡ Some x → Contains all v) → (path : List Id) × IsOpenPath r path
 open_path r all known = go (reading_among r all all known)
   where
     go : ((v : Id) × (vs : List Id) × IsReading r v vs) ⊎ ((v : Id) → Contains all v → (vs : List Id) → IsReading r v vs → ⊥) → (path : List Id) × IsOpenPath r path
