@@ -1,0 +1,10 @@
+pub mod Capacities
+pub mod Firsts
+pub mod Finding
+pub mod Lists
+pub mod Opening
+pub mod Readers
+pub mod Settled
+pub mod Short
+pub mod Ups
+pub mod Walks

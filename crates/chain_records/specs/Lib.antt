@@ -1,0 +1,6 @@
+pub mod Records
+pub mod Checks
+pub mod Found
+pub mod Paths
+pub mod Settling
+pub mod Shown

@@ -1,0 +1,20 @@
+//! The records of an image's volumes: what they say of chains, why an image is refused, and what settling has to do.
+//! Nothing here calls a disk.
+#![tactic(auto)]
+
+mod below;
+mod checks;
+mod found;
+mod laws;
+mod reading;
+mod records;
+mod settle;
+mod subchain;
+mod volume;
+mod volume_list;
+
+pub use found::FoundVolumes;
+pub use laws::{paths_are_short, records_refuse_as_the_opening, settling_keeps_paths};
+pub use records::VolumeRecords;
+pub use volume::Volume;
+pub use volume_list::VolumeList;
