@@ -1,14 +1,16 @@
 -- The first check of a list that refuses.
 use Rattle.std.proofs.Common.{◌≡◌, ℕ, ◌<◌, ◌+◌, List, [], ◌∷◌, ◌++◌, length, get_or, drop, map, Option, Some, None, refl, sym, subst, inl, inr}
+use Rattle.std.specs.List.{Contains}
 use Rattle.sd_names.specs.declared.id.Id.{Id}
 use Rattle.sd_names.specs.declared.refusal.Refusal.{Refusal}
 use Rattle.sd_names.specs.declared.refusal.Refusal.TheVariants.{ChainTooLong, NoReadingVolume}
+use Rattle.shared_disk.proofs.Outcomes.{contains_here, contains_more}
 use Rattle.chain_model.specs.Chain.{HasRing}
 use Rattle.chain_model.specs.Opening.{Check, both, capacity, format, parents, reading, ring}
 use Rattle.chain_model.specs.Reading.{HasNoReading}
 use Rattle.chain_model.specs.Records.{Records}
 use Rattle.chain_records.specs.declared.volume.Volume.{Volume}
-use Rattle.chain_records.specs.Checks.{FirstIs, record_checks}
+use Rattle.chain_records.specs.Checks.{FirstIs, RefusesBy, record_checks}
 use Rattle.chain_records.specs.Paths.{IsReadingPath}
 use Rattle.chain_records.specs.Records.{ids_of}
 use Rattle.chain_records.proofs.Lists.{rest_is}
@@ -51,12 +53,25 @@ reading_refuses r vs f none g reads =
     first_of_rest r (map parents vs ++ ring ∷ both format capacity vs) (reading ∷ []) (Some NoReadingVolume) (up_to_ring r vs None f none g) (inl
     (NoReadingVolume, (reads, refl), refl))
 
-pub none_refuses : (r : Records) (vs path : List Id) → FirstIs r (map parents vs) None → (HasRing r → ⊥) → FirstIs r (both format capacity vs) None
-    → IsReadingPath r path
+pub all_pass : (r : Records) (vs : List Id) → FirstIs r (map parents vs) None → (HasRing r → ⊥) → FirstIs r (both format capacity vs) None → (HasNoReading r → ⊥)
     → FirstIs r (record_checks vs) None
-none_refuses r vs path f none g reads =
-    first_of_rest r (map parents vs ++ ring ∷ both format capacity vs) (reading ∷ []) None (up_to_ring r vs None f none g) (inr
-    ((λ e is. is.0 reads.0 reads.1 reads.2), refl))
+all_pass r vs f none g reads =
+    first_of_rest r (map parents vs ++ ring ∷ both format capacity vs) (reading ∷ []) None (up_to_ring r vs None f none g) (inr ((λ e is. reads is.0), refl))
+
+pub none_refuses : (r : Records) (vs path : List Id) → FirstIs r (map parents vs) None → (HasRing r → ⊥) → FirstIs r (both format capacity vs) None → IsReadingPath r path
+    → FirstIs r (record_checks vs) None
+none_refuses r vs path f none g reads = all_pass r vs f none g (λ no. no reads.0 reads.1 reads.2)
+
+-- where no check of each volume refuses, none of all does
+pub parents_pass : (r : Records) (vs : List Id) → ((v : Id) → Contains vs v → (e : Refusal) → RefusesBy r (parents v) e → ⊥) → FirstIs r (map parents vs) None
+parents_pass r [] none = refl
+parents_pass r (v ∷ vs) none = inr (none v (contains_here v vs), parents_pass r vs (λ u h. none u (contains_more v u vs h)))
+
+pub values_pass : (r : Records) (vs : List Id) → ((v : Id) → Contains vs v → (e : Refusal) → RefusesBy r (format v) e → ⊥)
+    → ((v : Id) → Contains vs v → (e : Refusal) → RefusesBy r (capacity v) e → ⊥) → FirstIs r (both format capacity vs) None
+values_pass r [] raw small = refl
+values_pass r (v ∷ vs) raw small =
+    inr (raw v (contains_here v vs), inr (small v (contains_here v vs), values_pass r vs (λ u h. raw u (contains_more v u vs h)) (λ u h. small u (contains_more v u vs h))))
 
 -- ---- the next volume of a list
 

@@ -1,8 +1,10 @@
+pub mod Again
 pub mod Capacities
 pub mod Firsts
 pub mod Finding
 pub mod Lists
 pub mod Opening
+pub mod Partly
 pub mod Readers
 pub mod Settled
 pub mod Short

@@ -23,10 +23,10 @@ use Rattle.chain_records.specs.Settling.{AreRewritten, HasPassedParent, IsOver, 
 
 -- ---- the parent that counts
 
-up_passed : (r : Records) (w : Id) (ws : List Id) → is_passed r w ≡ true → up_of r (w ∷ ws) ≡ up_of r ws
+pub up_passed : (r : Records) (w : Id) (ws : List Id) → is_passed r w ≡ true → up_of r (w ∷ ws) ≡ up_of r ws
 up_passed r w ws e = rw e refl
 
-up_kept : (r : Records) (w : Id) (ws : List Id) → is_passed r w ≡ false → up_of r (w ∷ ws) ≡ Some w
+pub up_kept : (r : Records) (w : Id) (ws : List Id) → is_passed r w ≡ false → up_of r (w ∷ ws) ≡ Some w
 up_kept r w ws e = rw e refl
 
 pub counting_passed : (r : Records) (w : Id) (ws : List Id) → is_passed r w ≡ true → counting r (w ∷ ws) ≡ counting r ws
@@ -84,8 +84,8 @@ no_record_no_up : (r : Records) (v : Id) (vs : List Id) → r v ≡ None → IsB
 no_record_no_up r v [] e b = refl
 no_record_no_up r v (w ∷ ws) e b = absurd (no_id (parent r v) w (ap (λ (o : Option VolumeRecord). option_and_then parent_in o) e) b.0)
 
-parent_after : (r s : Records) (v : Id) (vs : List Id) → AreRewritten r s → IsBelow r v vs → parent s v ≡ up_of r vs
-parent_after r s v vs are b = go (r v) refl (are v)
+pub parent_rewritten : (r s : Records) (v : Id) (vs : List Id) → IsRewritten r v (r v) (s v) → IsBelow r v vs → parent s v ≡ up_of r vs
+parent_rewritten r s v vs done b = go (r v) refl done
   where
     go : (o : Option VolumeRecord) → r v ≡ o → IsRewritten r v o (s v) → parent s v ≡ up_of r vs
     go None e is = ap (λ (o : Option VolumeRecord). option_and_then parent_in o) is ∙ sym (no_record_no_up r v vs e b)
@@ -93,7 +93,10 @@ parent_after r s v vs are b = go (r v) refl (are v)
         ap (λ (o : Option VolumeRecord). option_and_then parent_in o) is.2
         ∙ parent_written x is.0 is.1 (up_of r vs) (is.3 vs b) (λ q f. up_not_zero r v q vs b f)
 
-legal_written : (r : Records) (v : Id) (o a : Option VolumeRecord) → IsRewritten r v o a → holds_in legal_in a ≡ holds_in legal_in o
+parent_after : (r s : Records) (v : Id) (vs : List Id) → AreRewritten r s → IsBelow r v vs → parent s v ≡ up_of r vs
+parent_after r s v vs are b = parent_rewritten r s v vs (are v) b
+
+pub legal_written : (r : Records) (v : Id) (o a : Option VolumeRecord) → IsRewritten r v o a → holds_in legal_in a ≡ holds_in legal_in o
 legal_written r v None a is = ap (λ (z : Option VolumeRecord). holds_in legal_in z) is
 legal_written r v (Some x) a is = ap (λ (z : Option VolumeRecord). holds_in legal_in z) is.2
 
@@ -107,14 +110,17 @@ passed_written r v (Some x) a is e =
     let same = sym (ap (λ (z : Option VolumeRecord). is_some (option_and_then parent_in z)) is.2) ∙ e in
     ap (λ (z : Option VolumeRecord). holds_in passed_in z) is.2 ∙ ap (λ (b : Bool). not (legal_in x) && (x.merged && b)) same
 
-some_parent_after : (r s : Records) (v : Id) (vs : List Id) → AreRewritten r s → IsBelow r v vs → is_some (parent s v) ≡ is_some (parent r v)
-some_parent_after r s v [] are b = ap (λ (o : Option Id). is_some o) (parent_after r s v [] are b ∙ sym b)
-some_parent_after r s v (w ∷ ws) are b =
+some_parent : (r s : Records) (v : Id) (vs : List Id) → IsRewritten r v (r v) (s v) → IsBelow r v vs → is_some (parent s v) ≡ is_some (parent r v)
+some_parent r s v [] is b = ap (λ (o : Option Id). is_some o) (parent_rewritten r s v [] is b ∙ sym b)
+some_parent r s v (w ∷ ws) is b =
     let up = some_up r v w ws b in
-    ap (λ (o : Option Id). is_some o) (parent_after r s v (w ∷ ws) are b ∙ up.1) ∙ sym (ap (λ (o : Option Id). is_some o) b.0)
+    ap (λ (o : Option Id). is_some o) (parent_rewritten r s v (w ∷ ws) is b ∙ up.1) ∙ sym (ap (λ (o : Option Id). is_some o) b.0)
+
+pub passed_rewritten : (r s : Records) (v : Id) (vs : List Id) → IsRewritten r v (r v) (s v) → IsBelow r v vs → is_passed s v ≡ is_passed r v
+passed_rewritten r s v vs is b = passed_written r v (r v) (s v) is (some_parent r s v vs is b)
 
 passed_after : (r s : Records) (v : Id) (vs : List Id) → AreRewritten r s → IsBelow r v vs → is_passed s v ≡ is_passed r v
-passed_after r s v vs are b = passed_written r v (r v) (s v) (are v) (some_parent_after r s v vs are b)
+passed_after r s v vs are b = passed_rewritten r s v vs (are v) b
 
 -- ---- chains and paths
 
@@ -130,7 +136,7 @@ from_up r s v a (w ∷ ws) are b e = go (is_passed r w) refl (from_up r s v w ws
 pub below_after : (r s : Records) (v : Id) (vs : List Id) → AreRewritten r s → IsBelow r v vs → IsBelow s v (counting r vs)
 below_after r s v vs are b = from_up r s v v vs are b (parent_after r s v vs are b)
 
-counted : (r : Records) (w : Id) (vs : List Id) → Contains (counting r vs) w → Contains vs w × (is_passed r w ≡ false)
+pub counted : (r : Records) (w : Id) (vs : List Id) → Contains (counting r vs) w → Contains vs w × (is_passed r w ≡ false)
 counted r w [] h = absurd (nothing_in w h)
 counted r w (u ∷ us) h = go (is_passed r u) refl (counted r w us)
   where

@@ -23,7 +23,7 @@ use Rattle.chain_records.proofs.Lists.{length_ids, record_among}
 use Rattle.chain_records.proofs.Settled.{counting_kept, counting_passed}
 use Rattle.chain_records.proofs.Walks.{none_among}
 
-passes : (r : Records) (cs : List Check) → FirstIs r cs None → (c : Check) → Contains cs c → (e : Refusal) → RefusesBy r c e → ⊥
+pub passes : (r : Records) (cs : List Check) → FirstIs r cs None → (c : Check) → Contains cs c → (e : Refusal) → RefusesBy r c e → ⊥
 passes r [] f c h e p = nothing_in c h
 passes r (d ∷ ds) (inl f) c h e p = let same = f.2 in absurd cc
 passes r (d ∷ ds) (inr f) c h e p =
@@ -40,15 +40,45 @@ in_parents (w ∷ ws) v h = go (cons_cases w v ws h) (in_parents ws v)
     go (inl e) more = subst (λ (z : Id). Contains (map parents (w ∷ ws)) (parents z)) e (contains_here (parents w) (map parents ws))
     go (inr g) more = contains_more (parents w) (parents v) (map parents ws) (more g)
 
-asks_parents : (vs : List Id) (v : Id) → Contains vs v → Contains (record_checks vs) (parents v)
+pub asks_parents : (vs : List Id) (v : Id) → Contains vs v → Contains (record_checks vs) (parents v)
 asks_parents vs v h =
     Contains-append_left (map parents vs ++ ring ∷ both format capacity vs) (reading ∷ []) (parents v) (
     Contains-append_left (map parents vs) (ring ∷ both format capacity vs) (parents v) (in_parents vs v h))
 
-asks_ring : (vs : List Id) → Contains (record_checks vs) ring
+pub asks_ring : (vs : List Id) → Contains (record_checks vs) ring
 asks_ring vs =
     Contains-append_left (map parents vs ++ ring ∷ both format capacity vs) (reading ∷ []) ring (
     Contains-append_right (map parents vs) (ring ∷ both format capacity vs) ring (contains_here ring (both format capacity vs)))
+
+in_values : (vs : List Id) (v : Id) → Contains vs v → Contains (both format capacity vs) (format v) × Contains (both format capacity vs) (capacity v)
+in_values [] v h = absurd (nothing_in v h)
+in_values (w ∷ ws) v h = go (cons_cases w v ws h) (in_values ws v)
+  where
+    go : (w ≡ v) ⊎ Contains ws v → (Contains ws v → Contains (both format capacity ws) (format v) × Contains (both format capacity ws) (capacity v))
+        → Contains (both format capacity (w ∷ ws)) (format v) × Contains (both format capacity (w ∷ ws)) (capacity v)
+    go (inl e) more =
+        subst (λ (z : Id). Contains (both format capacity (w ∷ ws)) (format z) × Contains (both format capacity (w ∷ ws)) (capacity z)) e (
+          contains_here (format w) (capacity w ∷ both format capacity ws),
+          contains_more (format w) (capacity w) (capacity w ∷ both format capacity ws) (contains_here (capacity w) (both format capacity ws)),
+        )
+    go (inr g) more = (
+      contains_more (format w) (format v) (capacity w ∷ both format capacity ws) (contains_more (capacity w) (format v) (both format capacity ws) (more g).0),
+      contains_more (format w) (capacity v) (capacity w ∷ both format capacity ws) (contains_more (capacity w) (capacity v) (both format capacity ws) (more g).1),
+    )
+
+in_checks : (vs : List Id) (c : Check) → Contains (both format capacity vs) c → Contains (record_checks vs) c
+in_checks vs c h =
+    Contains-append_left (map parents vs ++ ring ∷ both format capacity vs) (reading ∷ []) c (
+    Contains-append_right (map parents vs) (ring ∷ both format capacity vs) c (contains_more ring c (both format capacity vs) h))
+
+pub asks_format : (vs : List Id) (v : Id) → Contains vs v → Contains (record_checks vs) (format v)
+asks_format vs v h = in_checks vs (format v) (in_values vs v h).0
+
+pub asks_capacity : (vs : List Id) (v : Id) → Contains vs v → Contains (record_checks vs) (capacity v)
+asks_capacity vs v h = in_checks vs (capacity v) (in_values vs v h).1
+
+pub asks_reading : (vs : List Id) → Contains (record_checks vs) reading
+asks_reading vs = Contains-append_right (map parents vs ++ ring ∷ both format capacity vs) (reading ∷ []) reading (contains_here reading [])
 
 pub has_chain : (xs : List Volume) (v : Id) → FirstIs (records_in xs) (record_checks (ids_of xs)) None → HasChain (records_in xs) v
 has_chain xs v f = go (chain_or_ring (records_in xs) (ids_of xs) (record_among xs) v)

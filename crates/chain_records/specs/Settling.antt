@@ -1,5 +1,5 @@
 -- What settling makes of the records of an image: each volume names its parent that counts.
-use Rattle.std.specs.Prelude.{◌≡◌, true, List, Contains, Option, Some, None, unwrap_or}
+use Rattle.std.specs.Prelude.{◌≡◌, ◌⊎◌, true, List, Contains, Option, Some, None, unwrap_or}
 use Rattle.sd_names.specs.Id.{zero_id}
 use Rattle.sd_names.specs.declared.id.Id.{Id}
 use Rattle.sd_names.specs.declared.kinds.VolType.{VolType}
@@ -32,6 +32,10 @@ IsRewritten r v (Some x) o =
 -- the records s are those of r once all parents are rewritten
 abbrev pub AreRewritten : Records → Records → Type 0
 AreRewritten r s = (v : Id) → IsRewritten r v (r v) (s v)
+
+-- on the way there: some records are rewritten, and the others are as they were
+abbrev pub ArePartlyRewritten : Records → Records → Type 0
+ArePartlyRewritten r s = (v : Id) → (s v ≡ r v) ⊎ IsRewritten r v (r v) (s v)
 
 -- Each header along a path names the parent that counts, and that of a base none. What it names is read with the records s.
 abbrev pub NameUps : Records → Records → Volumes → List Id → Type 0

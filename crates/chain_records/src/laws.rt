@@ -1,5 +1,5 @@
 // Laws of what records say of an image's opening.
-ghost use Rattle.std.specs.Prelude.{◌≡◌, ◌≤◌, List, Contains, None, Some, length, unwrap_or};
+ghost use Rattle.std.specs.Prelude.{◌≡◌, ℕ, ◌≤◌, List, Contains, None, Some, length, unwrap_or};
 ghost use Rattle.sd_names.specs.Id.{zero_id};
 ghost use Rattle.sd_names.specs.declared.id.Id.{Id};
 ghost use Rattle.sd_names.specs.declared.refusal.Refusal.{Refusal};
@@ -7,7 +7,9 @@ ghost use Rattle.sd_names.specs.declared.refusal.Refusal.TheVariants.{NoVolume};
 ghost use Rattle.volume_meta.specs.declared.record.VolumeRecord.{VolumeRecord};
 ghost use Rattle.chain_model.specs.Chain.{AllCount, IsBelow, counting, path_of};
 ghost use Rattle.chain_model.specs.Folder.{Volumes};
-ghost use Rattle.chain_model.specs.Headers.{NameNext};
+ghost use Rattle.chain_model.specs.Headers.{NameNext, backing};
+ghost use Rattle.chain_model.specs.Flat.{IsFlat};
+ghost use Rattle.chain_model.specs.Own.{own};
 ghost use Rattle.chain_model.specs.Opening.{Check, FirstRefusal, IsOpenable, OpenFault, Refuses, both, header, layer};
 ghost use Rattle.chain_model.specs.Reading.{IsReading};
 ghost use Rattle.chain_model.specs.Records.{Image, Records, is_legal, parent};
@@ -15,7 +17,7 @@ ghost use Rattle.chain_model.specs.Up.{up_of};
 ghost use Rattle.chain_records.specs.Checks.{FirstIs, record_checks};
 ghost use Rattle.chain_records.specs.Records.{first_missing, ids_of, records_in};
 ghost use Rattle.chain_records.specs.Paths.{HasChain};
-ghost use Rattle.chain_records.specs.Settling.{AreRewritten, HasPassedParent, IsOver, NameUps};
+ghost use Rattle.chain_records.specs.Settling.{ArePartlyRewritten, AreRewritten, HasPassedParent, IsOver, NameUps};
 ghost use Rattle.chain_records.specs.Shown.{AreRead, IsShown};
 ghost use Rattle.chain_records.specs.declared.volume.Volume.{Volume};
 
@@ -77,4 +79,22 @@ pub fn paths_are_short()
     ensures short { (xs : List Volume) (v : Id) (vs : List Id)
         → FirstIs (records_in xs) (record_checks (ids_of xs)) None → Contains (ids_of xs) v
         → IsBelow (records_in xs) v vs → length (path_of (records_in xs) v vs) ≤ length xs }
+{}
+
+/// A law: on the way of settling, whichever records are rewritten already, each volume has a chain where it had one,
+/// the same path, legality, header's name and sectors, and so reads as it did; the reading volume is the same. Records
+/// of which no check refuses still pass.
+pub fn settling_reads_alike()
+    ensures chain { (r s : Records) (v : Id) (vs : List Id) → ArePartlyRewritten r s → IsBelow r v vs → HasChain s v }
+    ensures path { (r s : Records) (v : Id) (vs ws : List Id) → ArePartlyRewritten r s → IsBelow r v vs
+        → IsBelow s v ws → path_of s v ws ≡ path_of r v vs }
+    ensures legal { (r s : Records) (v : Id) → ArePartlyRewritten r s → is_legal s v ≡ is_legal r v }
+    ensures reading { (r s : Records) (v : Id) (vs : List Id) → ArePartlyRewritten r s → IsReading r v vs
+        → (ws : List Id) × IsReading s v ws }
+    ensures named { (r s : Records) (y : Volumes) (v : Id) → ArePartlyRewritten r s → backing s y v ≡ backing r y v }
+    ensures own { (r s : Records) (y : Volumes) (v : Id) (k : ℕ) → ArePartlyRewritten r s → own s y v k ≡ own r y v k }
+    ensures flats { (r s : Records) (flats : Id → ℕ → List ℕ) (y : Volumes) → ArePartlyRewritten r s
+        → ((v : Id) → HasChain r v) → IsFlat r flats y → IsFlat s flats y }
+    ensures passes { (xs : List Volume) (s : Records) → ArePartlyRewritten (records_in xs) s
+        → FirstIs (records_in xs) (record_checks (ids_of xs)) None → FirstIs s (record_checks (ids_of xs)) None }
 {}

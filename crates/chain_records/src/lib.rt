@@ -14,7 +14,9 @@ mod volume;
 mod volume_list;
 
 pub use found::FoundVolumes;
-pub use laws::{paths_are_short, records_refuse_as_the_opening, settling_keeps_paths};
+pub use laws::{
+    paths_are_short, records_refuse_as_the_opening, settling_keeps_paths, settling_reads_alike,
+};
 pub use records::VolumeRecords;
 pub use volume::Volume;
 pub use volume_list::VolumeList;
