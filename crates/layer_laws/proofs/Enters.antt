@@ -1,6 +1,7 @@
 -- The entry of a cluster of the virtual disk becomes data.
 use Rattle.std.proofs.Common.{◌≡◌, ◌≢◌, ◌⊎◌, inl, inr, ℕ, ◌+◌, ◌-◌, ◌*◌, ◌/◌, ◌%◌, ◌^◌, ◌<◌, ◌≤◌, true, List, Option, Some, None, Result, Ok, refl, sym, ap, ◌∙◌, subst, arith, nat_lt}
-use Rattle.std.proofs.Math.Nat.{div-add-mod, mul_comm}
+use Rattle.std.proofs.Math.Nat.{div-add-mod, mod-lt, mul_comm}
+use Rattle.std.proofs.lemmas.Nat.{pow_pos}
 use Rattle.std.proofs.lemmas.Bool.Decides.{nat_tests}
 use Rattle.sd_names.specs.declared.fault.LayerFault.{LayerFault}
 use Rattle.qcow_format.specs.declared.header.Header.{Header}
@@ -10,7 +11,7 @@ use Rattle.image_model.specs.Layer.{Tables, block_span, block_word, count_of, en
 use Rattle.image_model.specs.Soundness.{IsClean, IsSound, Item, before_mapping, item, l2_item, l2_item_of, layer_header, names, own_fault, placed}
 use Rattle.layer_laws.specs.Laws.{AreSectors, Entered, IsNamedOnlyAt, OnlyWord, SameOutside, block_position, entry_position, l1_position, layer}
 use Rattle.layer_laws.proofs.Capacities.{beyond_inside}
-use Rattle.layer_laws.proofs.Clusters.{Agrees}
+use Rattle.layer_laws.proofs.Clusters.{Agrees, other_byte}
 use Rattle.layer_laws.proofs.Frames as frames
 use Rattle.layer_laws.proofs.Heads.{header_kept}
 use Rattle.layer_laws.proofs.Items.{block_item_same, block_word_same, entry_same, item_by, l1_entry_same, l2_entry_same, mapping_item_same}
@@ -163,6 +164,12 @@ module _ (n capacity k table place : ℕ) (s s' : ℕ → List ℕ) (h : Header)
   entry_other m ne = entry_same h F G capacity m (l1_still (m / entries T)) (λ table' low' is.
       l2_other (m / entries T) (m % entries T) table' low' (entry_lt h F capacity shape clean m) is (λ a b. ne (same_parts m k (entries T) a b)))
 
+  -- the cluster of data is another than the table's
+  data_byte : (o : ℕ) → o < c → G.byte (place + o) ≡ F.byte (place + o)
+  data_byte o lt =
+      other_byte c (2 ^ (h.cluster_bits - 9)) table F G (cluster_sectors h.cluster_bits shape.low) named.1 agree place o begins lt (λ same.
+      l1_not_l2 T i i j j_lt (free (l1_position T i) (named.0 ∙ ap (λ (x : ℕ). Some x) (sym same))))
+
   pub entered : Entered h capacity k place F G
   entered = record {
     header = header;
@@ -176,4 +183,5 @@ module _ (n capacity k table place : ℕ) (s s' : ℕ → List ℕ) (h : Header)
     counts_kept = count_still;
     bytes_kept = λ x ne. byte_by h F G capacity table shape clean named.1 agree x (entry_other (x / c) ne) (λ place e.
         not_here (entry_position T (x / c)) (λ same. l1_not_l2 T i (x / c / entries T) (x / c % entries T) (entry_lt h F capacity shape clean (x / c)) (sym same)));
+    bytes = λ x same. frames.held n capacity table s s' h are is sound named.1 outside place x (ap (entry_at U) same ∙ entry_here) ∙ ap (λ (b : ℕ). Some b) (data_byte (x % c) (mod-lt x (pow_pos h.cluster_bits)));
   }

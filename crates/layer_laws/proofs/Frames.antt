@@ -3,17 +3,17 @@ use Rattle.std.proofs.Common.{◌≡◌, ◌≢◌, ℕ, ◌+◌, ◌-◌, ◌*�
 use Rattle.std.proofs.lemmas.Nat.{div_below, pow_pos}
 use Rattle.qcow_format.specs.declared.header.Header.{Header}
 use Rattle.qcow_format.specs.declared.entry.Entry.{Entry}
-use Rattle.qcow_format.specs.declared.entry.Entry.TheVariants.{Data}
+use Rattle.qcow_format.specs.declared.entry.Entry.TheVariants.{Data, Zero}
 use Rattle.image_model.specs.File.{File, file_of}
 use Rattle.image_model.specs.Layer.{Tables, block_at, l1_at, byte_behind, entries, entry_at, block_span, count_of, l1_clusters, own_byte}
 use Rattle.image_model.specs.Soundness.{IsClean, IsSound, before_mapping, layer_header, names}
-use Rattle.layer_laws.specs.Laws.{AreSectors, IsUnnamed, Overwritten, SameContent, SameOutside, block_position, entry_position, l1_position, layer}
+use Rattle.layer_laws.specs.Laws.{AreSectors, IsUnnamed, Overwritten, SameContent, SameLayer, SameOutside, block_position, entry_position, l1_position, layer}
 use Rattle.layer_laws.proofs.Clusters.{Agrees, agrees}
 use Rattle.layer_laws.proofs.Heads.{header_kept}
 use Rattle.layer_laws.proofs.Kept.{SameWords, block_word_kept, byte_kept, count_kept, count_still, counted_still, entry_still, l1_word_kept, l2_word_kept, same_layer, half_kept, span_lt}
 use Rattle.layer_laws.proofs.Numbers.{cluster_sectors, l1_inside}
 use Rattle.layer_laws.proofs.Positions.{block_early, entry_once, l1_not_l2, l2_late}
-use Rattle.layer_laws.proofs.Sound.{Shape, block_there, clean_of, data_at, entry_lt, entry_width, header_name, shape_of, unique}
+use Rattle.layer_laws.proofs.Sound.{Shape, block_there, clean_of, entry_lt, entry_width, header_name, shape_of, unique}
 
 -- a layer, and a file that differs in one cluster
 module _ (n capacity p : ℕ) (s s' : ℕ → List ℕ) (h : Header) (are : AreSectors n s) (is : layer_header (file_of n s) capacity ≡ Ok h) (sound : IsSound (file_of n s) capacity)
@@ -86,28 +86,54 @@ module _ (n capacity p : ℕ) (s s' : ℕ → List ℕ) (h : Header) (are : AreS
   unfolding own_byte
   held place i e = ap (λ (x : Entry). byte_behind (layer h G) (i % 2 ^ h.cluster_bits) x) e
 
-  -- an entry of data names it
-  pub overwrite : (k : ℕ) → entry_at T k ≡ Data p → Overwritten h capacity k p F G
-  overwrite k data_here =
-      let at = data_at h F capacity shape clean k p data_here in
-      let here : ℕ = entry_position T k in
-      let late : before_mapping T ≤ here = l2_late T (k / entries T) (k % entries T) in
-      let words : Words = words_by
-      (λ m lt. other_than here at.name m (λ e. early m lt (omega (arith, e, late))))
-      (λ i. other_than here at.name (l1_position T i) (λ e. l1_not_l2 T i (k / entries T) (k % entries T) (entry_lt h F capacity shape clean k) e)) in
-      let counts : (x : ℕ) → count_of (layer h G) x ≡ count_of T x = λ x. count_still h F G capacity p shape clean whole agree words x (λ some.
-      half_kept h F G capacity p shape clean whole agree (x / block_span T) (x % block_span T) some (span_lt h F G capacity p shape clean whole agree x)
-      (other_than here at.name (block_position T (x / block_span T)) (λ e. let low = block_early T (x / block_span T) (block_there h F capacity shape clean (x / block_span T) some) in omega (arith, low, e, late)))) in
-      let some : p ≢ 0 = not_first here at.name (λ e. omega (arith, e, late)) in record {
-        same = same_layer h F G capacity p shape clean whole agree words (header_kept n p capacity s s' h are is whole some same) (counted_still h F G capacity p shape clean whole agree words counts);
-        counts = counts;
-        bytes_kept = λ i other. byte_kept h F G capacity p shape clean whole agree words i (λ place e.
-            other_than here at.name (entry_position T (i / 2 ^ h.cluster_bits)) (λ same. other (entry_once T (i / 2 ^ h.cluster_bits) k per_some same)));
-        bytes = λ i same. held p i (entry_still h F G capacity p shape clean whole agree words (i / 2 ^ h.cluster_bits) ∙ ap (entry_at T) same ∙ data_here);
-      }
-    where
-      early : (m : ℕ) → m < 1 + l1_clusters T + h.refcount_table_clusters → before_mapping T ≤ m → ⊥
-      early m lt le = before (1 + l1_clusters T) h.refcount_table_clusters (entries T) lt le
-        where
-          before : (a r e : ℕ) → m < a + r → a + r * (1 + e) ≤ m → ⊥
-          before a r e lt le = let more : r * (1 + e) ≡ r + r * e = omega arith in omega (arith, lt, le, more)
+  -- an entry of an L2 table names it
+  module _ (k : ℕ) (named : names T capacity (entry_position T k) ≡ Some p) where
+    abbrev here : ℕ
+    here = entry_position T k
+
+    late : before_mapping T ≤ here
+    late = l2_late T (k / entries T) (k % entries T)
+
+    early : (m : ℕ) → m < 1 + l1_clusters T + h.refcount_table_clusters → before_mapping T ≤ m → ⊥
+    early m lt le = before (1 + l1_clusters T) h.refcount_table_clusters (entries T) lt le
+      where
+        before : (a r e : ℕ) → m < a + r → a + r * (1 + e) ≤ m → ⊥
+        before a r e lt le = let more : r * (1 + e) ≡ r + r * e = omega arith in omega (arith, lt, le, more)
+
+    words : Words
+    words = words_by
+        (λ m lt. other_than here named m (λ e. early m lt (omega (arith, e, late))))
+        (λ i. other_than here named (l1_position T i) (λ e. l1_not_l2 T i (k / entries T) (k % entries T) (entry_lt h F capacity shape clean k) e))
+
+    counts : (x : ℕ) → count_of (layer h G) x ≡ count_of T x
+    counts x = count_still h F G capacity p shape clean whole agree words x (λ some.
+        half_kept h F G capacity p shape clean whole agree (x / block_span T) (x % block_span T) some (span_lt h F G capacity p shape clean whole agree x)
+        (other_than here named (block_position T (x / block_span T)) (λ e. let low = block_early T (x / block_span T) (block_there h F capacity shape clean (x / block_span T) some) in omega (arith, low, e, late))))
+
+    same_as : SameLayer h capacity F G
+    same_as = same_layer h F G capacity p shape clean whole agree words
+        (header_kept n p capacity s s' h are is whole (not_first here named (λ e. omega (arith, e, late))) same) (counted_still h F G capacity p shape clean whole agree words counts)
+
+    bytes_elsewhere : (i : ℕ) → ((place : ℕ) → entry_at T (i / 2 ^ h.cluster_bits) ≡ Data place → i / 2 ^ h.cluster_bits ≡ k → ⊥) → own_byte (layer h G) i ≡ own_byte T i
+    bytes_elsewhere i other = byte_kept h F G capacity p shape clean whole agree words i (λ place e.
+        other_than here named (entry_position T (i / 2 ^ h.cluster_bits)) (λ same. other place e (entry_once T (i / 2 ^ h.cluster_bits) k per_some same)))
+
+    -- as data
+    pub overwrite : entry_at T k ≡ Data p → Overwritten h capacity k p F G
+    overwrite data_here = record {
+      same = same_as;
+      counts = counts;
+      bytes_kept = λ i other. bytes_elsewhere i (λ place e. other);
+      bytes = λ i same. held p i (entry_still h F G capacity p shape clean whole agree words (i / 2 ^ h.cluster_bits) ∙ ap (entry_at T) same ∙ data_here);
+    }
+
+    -- kept, while the entry reads as zeros
+    pub refill : entry_at T k ≡ Zero p → SameContent h capacity F G
+    refill zero_here = record {
+      same = same_as;
+      counts = counts;
+      bytes = λ i. bytes_elsewhere i (λ place e same. differ place (sym e ∙ ap (entry_at T) same ∙ zero_here));
+    }
+      where
+        differ : (place : ℕ) → Data place ≡ Zero p → ⊥
+        differ place e = absurd cc

@@ -7,7 +7,7 @@ use Rattle.qcow_format.specs.declared.entry.Entry.{Entry}
 use Rattle.qcow_format.specs.declared.entry.Entry.TheVariants.{Absent}
 use Rattle.qcow_format.specs.Entry.{entry_in}
 use Rattle.image_model.specs.File.{File, file_of}
-use Rattle.image_model.specs.Layer.{Tables, block_span, block_word, cluster_size, count_of, entries, entry_at, entry_behind, entry_or_absent, l1_at, l1_clusters, l1_entry, l2_at, l2_entry}
+use Rattle.image_model.specs.Layer.{Tables, block_place, block_span, block_word, cluster_size, count_of, entries, entry_at, entry_behind, entry_or_absent, l1_at, l1_clusters, l1_entry, l2_at, l2_entry}
 use Rattle.image_model.specs.Soundness.{IsClean, IsSound, Item, before_mapping, item, l1_item_of, l2_item, l2_item_of, layer_header, mapping_item, names, own_fault, placed}
 use Rattle.layer_laws.specs.Laws.{AreSectors, IsUnnamed, OnlyWord, Placed, SameOutside, block_position, entry_position, l1_position, layer}
 use Rattle.layer_laws.proofs.Clusters.{Agrees, other_word}
@@ -103,7 +103,10 @@ module _ (n capacity i table : ℕ) (s s' : ℕ → List ℕ) (h : Header) (are 
   block_still : (b : ℕ) → block_word U b ≡ block_word T b
   block_still b = block_word_same h F G capacity b (frames.blocks_by n capacity p s s' h are is sound whole outside (λ m lt. not_here (1 + l1_clusters T + m) (λ e. omega (arith, e, m0_lt))) b)
 
-  l1_other : (m : ℕ) → m ≢ i → l1_entry U m ≡ l1_entry T m
+  pub place_still : (b : ℕ) → block_place U b ≡ block_place T b
+  place_still b = ap (λ w. w / 512 * 512) (block_still b)
+
+  pub l1_other : (m : ℕ) → m ≢ i → l1_entry U m ≡ l1_entry T m
   l1_other m ne = l1_entry_same h F G capacity m (other_word_kept n (l1_at T m / 8) (l1_at T i / 8) s s' only (λ e. apart h.l1_table_offset m i ne e))
     where
       apart : (o a b : ℕ) → a ≢ b → (o + 8 * a) / 8 ≡ (o + 8 * b) / 8 → ⊥

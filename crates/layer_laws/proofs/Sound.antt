@@ -9,7 +9,7 @@ use Rattle.sd_names.specs.declared.fault.LayerFault.{LayerFault}
 use Rattle.sd_names.specs.declared.fault.LayerFault.TheVariants.{MixedBits, Short, Size, Tail}
 use Rattle.qcow_format.specs.declared.header.Header.{Header}
 use Rattle.qcow_format.specs.declared.entry.Entry.{Entry}
-use Rattle.qcow_format.specs.declared.entry.Entry.TheVariants.{Absent, Data}
+use Rattle.qcow_format.specs.declared.entry.Entry.TheVariants.{Absent, Data, Zero}
 use Rattle.qcow_format.specs.Header.{header_of}
 use Rattle.qcow_format.proofs.Kept.{cluster_range, read_without_fault, tables_aligned}
 use Rattle.image_model.specs.File.{File}
@@ -182,18 +182,19 @@ module _ (h : Header) (f : File) (capacity : ℕ) (shape : Shape h) (clean : (n 
       pos : (c q : ℕ) → c ≡ 512 * q → 0 < c → 0 < c / 8
       pos c q is some = omega (arith, is, some)
 
-  -- an entry of data stands in a table, whose position names the place
-  pub record DataAt (k place : ℕ) : Type 0 where
+  -- an entry with a place stands in a table, and its position names the place
+  pub record PlacedAt (k place : ℕ) (entry : Entry) : Type 0 where
     pub low : k / entries T < h.l1_size
     pub table : ℕ
     pub l1 : l1_entry T (k / entries T) ≡ Ok (Some table)
-    pub l2 : l2_entry T table (k % entries T) ≡ Ok (Data place)
+    pub l2 : l2_entry T table (k % entries T) ≡ Ok entry
     pub name : names T capacity (entry_position T k) ≡ Some place
     pub whole : place % c ≡ 0
 
-  pub data_at : (k place : ℕ) → entry_at T k ≡ Data place → DataAt k place
+  placed_at : (k place : ℕ) (entry : Entry) → ((start at : ℕ) → l2_item_of T capacity start at (Ok entry) ≡ beyond capacity start (placed T at place)) → entry ≢ Absent
+      → entry_at T k ≡ entry → PlacedAt k place entry
   unfolding entry_at
-  data_at k place is = go (cases_lt (k / entries T) h.l1_size)
+  placed_at k place entry names_it there is = go (cases_lt (k / entries T) h.l1_size)
     where
       i : ℕ
       i = k / entries T
@@ -201,11 +202,11 @@ module _ (h : Header) (f : File) (capacity : ℕ) (shape : Shape h) (clean : (n 
       j : ℕ
       j = k % entries T
 
-      named : (table : ℕ) → i < h.l1_size → l1_entry T i ≡ Ok (Some table) → l2_entry T table j ≡ Ok (Data place) → DataAt k place
+      named : (table : ℕ) → i < h.l1_size → l1_entry T i ≡ Ok (Some table) → l2_entry T table j ≡ Ok entry → PlacedAt k place entry
       named table lt l1 l2 =
           let start : ℕ = (i * entries T + j) * cluster_size T in
           let e : item T capacity (l2_position T i j) ≡ beyond capacity start (placed T (l2_at table j) place) =
-          item_l2 T capacity i j lt (entry_lt k) ∙ ap (λ r. l2_item T capacity i j r) l1 ∙ ap (λ r. l2_item_of T capacity start (l2_at table j) r) l2 in
+          item_l2 T capacity i j lt (entry_lt k) ∙ ap (λ r. l2_item T capacity i j r) l1 ∙ ap (λ r. l2_item_of T capacity start (l2_at table j) r) l2 ∙ names_it start (l2_at table j) in
           let fine = not_wrong f.size (beyond capacity start (placed T (l2_at table j) place)) (ap (own_fault f.size) (sym e) ∙ (clean (l2_position T i j)).fine) in record {
             low = lt;
             table = table;
@@ -215,20 +216,31 @@ module _ (h : Header) (f : File) (capacity : ℕ) (shape : Shape h) (clean : (n 
             whole = whole_by place c (l2_at table j) (beyond_fine capacity start (placed T (l2_at table j) place) fine).0;
           }
 
-      second : (table : ℕ) (r : Result Entry LayerFault) → l2_entry T table j ≡ r → i < h.l1_size → l1_entry T i ≡ Ok (Some table) → entry_or_absent r ≡ Data place → DataAt k place
-      second table (Ok entry) l2 lt l1 e = named table lt l1 (l2 ∙ ap (λ (x : Entry). Ok x) e)
-      second table (Err fault) l2 lt l1 e = absurd cc
+      second : (table : ℕ) (r : Result Entry LayerFault) → l2_entry T table j ≡ r → i < h.l1_size → l1_entry T i ≡ Ok (Some table) → entry_or_absent r ≡ entry → PlacedAt k place entry
+      second table (Ok found) l2 lt l1 e = named table lt l1 (l2 ∙ ap (λ (x : Entry). Ok x) e)
+      second table (Err fault) l2 lt l1 e = absurd (there (sym e))
 
-      first : (r : Result (Option ℕ) LayerFault) → l1_entry T i ≡ r → i < h.l1_size → entry_behind T j r ≡ Data place → DataAt k place
+      first : (r : Result (Option ℕ) LayerFault) → l1_entry T i ≡ r → i < h.l1_size → entry_behind T j r ≡ entry → PlacedAt k place entry
       first (Ok (Some table)) l1 lt e = second table (l2_entry T table j) refl lt l1 e
-      first (Ok None) l1 lt e = absurd cc
-      first (Err fault) l1 lt e = absurd cc
+      first (Ok None) l1 lt e = absurd (there (sym e))
+      first (Err fault) l1 lt e = absurd (there (sym e))
 
-      go : (i < h.l1_size) ⊎ (h.l1_size ≤ i) → DataAt k place
+      go : (i < h.l1_size) ⊎ (h.l1_size ≤ i) → PlacedAt k place entry
       go (inr le) =
           let e : nat_lt i h.l1_size ≡ false = grind (arith, nat_tests) in
-          let bad : Absent ≡ Data place = sym (ap (λ b. if b then entry_behind T j (l1_entry T i) else Absent) e) ∙ is in
-          absurd cc
+          let bad : Absent ≡ entry = sym (ap (λ b. if b then entry_behind T j (l1_entry T i) else Absent) e) ∙ is in
+          absurd (there (sym bad))
       go (inl lt) =
           let e : nat_lt i h.l1_size ≡ true = grind (arith, nat_tests) in
           first (l1_entry T i) refl lt (sym (ap (λ b. if b then entry_behind T j (l1_entry T i) else Absent) e) ∙ is)
+
+  pub data_at : (k place : ℕ) → entry_at T k ≡ Data place → PlacedAt k place (Data place)
+  data_at k place is = placed_at k place (Data place) (λ start at. refl) (λ e. absurd cc) is
+
+  -- one that reads as zeros, and for which a cluster is kept
+  pub zero_at : (k place : ℕ) → place ≢ 0 → entry_at T k ≡ Zero place → PlacedAt k place (Zero place)
+  zero_at k place some is =
+      placed_at k place (Zero place)
+      (λ start at. ap (λ (b : Bool). beyond capacity start (if b then record { at = at; wrong = None; name = None } else placed T at place)) (ne_eqb place 0 some))
+      (λ e. absurd cc)
+      is

@@ -22,10 +22,6 @@ SameOutside p size s s' = (k : ℕ) → (k < p / 512) ⊎ ((p + size) / 512 ≤ 
 abbrev pub IsUnnamed : Tables → ℕ → ℕ → Type 0
 IsUnnamed t capacity p = (m : ℕ) → names t capacity m ≡ Some p → ⊥
 
--- a place that only an entry of an L2 table may name
-abbrev pub IsNoTable : Tables → ℕ → ℕ → Type 0
-IsNoTable t capacity p = (m : ℕ) → names t capacity m ≡ Some p → (before_mapping t ≤ m) × (0 < (m - before_mapping t) % (1 + entries t))
-
 -- another file is a layer as sound, which names and maps the same
 pub record SameLayer (h : Header) (capacity : ℕ) (f g : File) : Type 0 where
   pub header : layer_header g capacity ≡ Ok h
@@ -40,12 +36,6 @@ pub record SameContent (h : Header) (capacity : ℕ) (f g : File) : Type 0 where
   pub same : SameLayer h capacity f g
   pub counts : (x : ℕ) → count_of (layer h g) x ≡ count_of (layer h f) x
   pub bytes : (i : ℕ) → own_byte (layer h g) i ≡ own_byte (layer h f) i
-
--- and the same bytes but in the cluster of data at a place
-pub record SameBut (h : Header) (capacity p : ℕ) (f g : File) : Type 0 where
-  pub same : SameLayer h capacity f g
-  pub counts : (x : ℕ) → count_of (layer h g) x ≡ count_of (layer h f) x
-  pub bytes : (i : ℕ) → entry_at (layer h f) (i / 2 ^ h.cluster_bits) ≢ Data p → own_byte (layer h g) i ≡ own_byte (layer h f) i
 
 -- the sectors of a file are the same but for one number of 2 bytes, the one with index w
 pub record OnlyHalf (w : ℕ) (s s' : ℕ → List ℕ) : Type 0 where
@@ -88,6 +78,7 @@ pub record Entered (h : Header) (capacity k place : ℕ) (f g : File) : Type 0 w
   pub blocks : (b : ℕ) → block_place (layer h g) b ≡ block_place (layer h f) b
   pub counts_kept : (x : ℕ) → count_of (layer h g) x ≡ count_of (layer h f) x
   pub bytes_kept : (i : ℕ) → i / 2 ^ h.cluster_bits ≢ k → own_byte (layer h g) i ≡ own_byte (layer h f) i
+  pub bytes : (i : ℕ) → i / 2 ^ h.cluster_bits ≡ k → own_byte (layer h g) i ≡ Some (f.byte (place + i % 2 ^ h.cluster_bits))
 
 -- the sectors from n up to n', which isn't among them, are zeros
 abbrev pub AreZeros : ℕ → ℕ → (ℕ → List ℕ) → Type 0

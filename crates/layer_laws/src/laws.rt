@@ -1,7 +1,8 @@
 // Laws of sound layers.
 ghost use Rattle.std.specs.Prelude.{◌≡◌, ◌≢◌, ℕ, ◌+◌, ◌*◌, ◌/◌, ◌%◌, ◌^◌, ◌<◌, ◌≤◌, List, None, Ok, Some};
 ghost use Rattle.qcow_format.specs.declared.header.Header.{Header};
-ghost use Rattle.qcow_format.specs.declared.entry.Entry.TheVariants.{Data};
+ghost use Rattle.qcow_format.specs.declared.entry.Entry.TheVariants.{Data, Zero};
+ghost use Rattle.qcow_format.specs.Name.{backing_id};
 ghost use Rattle.image_model.specs.File.{File, file_of};
 ghost use Rattle.image_model.specs.Layer.{block_at, block_place, block_word, block_span, count_of, entries, entry_at, l1_at, l1_clusters, l1_entry, l2_at, l2_entry, own_byte};
 ghost use Rattle.image_model.specs.Soundness.{IsSound, layer_header, names};
@@ -19,6 +20,12 @@ pub fn frame()
         → SameOutside p (2 ^ h.cluster_bits) s s' → SameContent h capacity (file_of n s) (file_of n s') }
 {}
 
+/// A law: the backing file's name stays where a cluster other than the first one changes.
+pub fn parent_kept()
+    ensures { (n capacity p : ℕ) (s s' : ℕ → List ℕ) (h : Header) → AreSectors n s → layer_header (file_of n s) capacity ≡ Ok h
+        → p % 2 ^ h.cluster_bits ≡ 0 → p ≢ 0 → SameOutside p (2 ^ h.cluster_bits) s s' → backing_id h (file_of n s').head ≡ backing_id h (file_of n s).head }
+{}
+
 /// A law: the sectors of a cluster of data may change, and only its own bytes do.
 pub fn overwrite()
     ensures { (n capacity k p : ℕ) (s s' : ℕ → List ℕ) (h : Header) → AreSectors n s → layer_header (file_of n s) capacity ≡ Ok h
@@ -33,6 +40,13 @@ pub fn recount()
         → OnlyHalf (count_index (layer h (file_of n s)) x) s s'
         → ((m place : ℕ) → names (layer h (file_of n s)) capacity m ≡ Some place → place / 2 ^ h.cluster_bits ≡ x → 0 < (file_of n s').half (count_index (layer h (file_of n s)) x))
         → Recounted h capacity x ((file_of n s').half (count_index (layer h (file_of n s)) x)) (file_of n s) (file_of n s') }
+{}
+
+/// A law: the sectors of a cluster that is kept for an entry which reads as zeros may change, and nothing does.
+pub fn refill()
+    ensures { (n capacity k p : ℕ) (s s' : ℕ → List ℕ) (h : Header) → AreSectors n s → layer_header (file_of n s) capacity ≡ Ok h
+        → IsSound (file_of n s) capacity → entry_at (layer h (file_of n s)) k ≡ Zero p → p ≢ 0
+        → SameOutside p (2 ^ h.cluster_bits) s s' → SameContent h capacity (file_of n s) (file_of n s') }
 {}
 
 /// A law: the entry of a cluster of the virtual disk may become data at a place that begins a cluster inside the file,
@@ -76,6 +90,8 @@ pub fn link()
         → ((j : ℕ) → j < entries (layer h (file_of n s)) → (file_of n s).word (l2_at table j / 8) ≡ 0)
         → IsUnnamed (layer h (file_of n s)) capacity table
         → Placed h capacity (l1_position (layer h (file_of n s)) i) table (file_of n s) (file_of n s')
+        × ((m : ℕ) → m ≢ i → l1_entry (layer h (file_of n s')) m ≡ l1_entry (layer h (file_of n s)) m)
+        × ((b : ℕ) → block_place (layer h (file_of n s')) b ≡ block_place (layer h (file_of n s)) b)
         × ((x : ℕ) → count_of (layer h (file_of n s')) x ≡ count_of (layer h (file_of n s)) x) }
 {}
 

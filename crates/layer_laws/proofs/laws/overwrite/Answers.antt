@@ -5,5 +5,5 @@ use Rattle.layer_laws.proofs.laws.overwrite.Goals as goal
 
 pub returns : goal.returns
 returns c n capacity k p s s' h are is sound here same =
-    let whole = (data_at h (file_of n s) capacity (shape_of (file_of n s) capacity h is) (clean_of (file_of n s) capacity h is sound) k p here).whole in
-    overwrite n capacity p s s' h are is sound whole same k here
+    let at = data_at h (file_of n s) capacity (shape_of (file_of n s) capacity h is) (clean_of (file_of n s) capacity h is sound) k p here in
+    overwrite n capacity p s s' h are is sound at.whole same k at.name here
