@@ -1,6 +1,9 @@
 -- The header of a file whose first cluster stays.
-use Rattle.std.proofs.Common.{◌≡◌, ◌≢◌, ℕ, zero, suc, ◌+◌, ◌-◌, ◌*◌, ◌/◌, ◌%◌, ◌^◌, ◌<◌, ◌≤◌, ◌⊎◌, inl, inr, min, Bool, true, false, List, ◌++◌, length, take, drop, get_or, replicate, Result, Ok, Err, refl, sym, ap, ◌∙◌, subst, arith, nat_lt, nat_le}
-use Rattle.std.specs.Prelude.{◌==◌, ◌&&◌, ◌||◌, not, None, if◌then◌else◌}
+use Rattle.std.proofs.Common.{◌≡◌, ◌≢◌, ℕ, zero, suc, ◌+◌, ◌-◌, ◌*◌, ◌/◌, ◌%◌, ◌^◌, ◌<◌, ◌≤◌, ◌⊎◌, inl, inr, min, Bool, true, false, List, ◌++◌, length, take, drop, get_or, replicate, None, Result, Ok, Err, refl, sym, ap, ◌∙◌, subst, arith, nat_lt, nat_le}
+use Rattle.std.specs.Prelude.{◌==◌, ◌&&◌, ◌||◌, not, if◌then◌else◌}
+use Rattle.std.proofs.lemmas.Bool.{eqb-false, ne_eqb}
+use Rattle.sd_names.specs.Id.{id_of}
+use Rattle.qcow_format.specs.Name.{backing_id, is_id, is_name, last_part, touches}
 use Rattle.std.specs.List.{flat_map, range_with_len}
 use Rattle.std.proofs.Math.Seq.{take-append-add}
 use Rattle.std.proofs.Math.Nat.{mul-le-mul_right, pow-le-pow_right}
@@ -14,8 +17,6 @@ use Rattle.qcow_format.specs.Bytes.{number}
 use Rattle.qcow_format.specs.Format.{◌>>=◌}
 use Rattle.qcow_format.specs.Header.{fields_of, fields_of_version_2, fine_fields, head_size, header_of, mapped, shape_of, sized, with_format}
 use Rattle.qcow_format.proofs.Accepted.{bind_ok, sized_ok}
-use Rattle.sd_names.specs.Id.{id_of}
-use Rattle.qcow_format.specs.Name.{backing_id, is_id, is_name, last_part, touches}
 use Rattle.qcow_format.proofs.Kept.{cluster_range, kept, part_of, read_without_fault}
 use Rattle.qcow_format.proofs.Put.{number-same}
 use Rattle.image_model.specs.File.{file_of, sector_in}
@@ -132,50 +133,33 @@ pub layer_header_same : (n capacity : ℕ) (s s' : ℕ → List ℕ) (h : Header
 unfolding layer_header file_of
 layer_header_same n capacity s s' h same is = ap (λ r. if nat_lt (512 * n) 512 then Err Short else layer_header_of capacity r) same ∙ is
 
--- ---- the backing file's name
-
-both : (a b : Bool) → (a && b) ≡ true → (a ≡ true) × (b ≡ true)
-both true true e = (refl, refl)
-both true false e = absurd cc
-both false b e = absurd cc
-
-second : (a b : Bool) → a ≡ false → (a || b) ≡ true → b ≡ true
-second true b e f = absurd cc
-second false b e f = f
-
--- it stands in the first bytes
-name_within : (xs : List ℕ) (h : Header) → header_of xs ≡ Ok h → (h.backing_file_offset == 0) ≡ false → h.backing_file_offset + h.backing_file_size ≤ length (take (head_size h.cluster_bits) xs)
-name_within xs h e there =
+-- the backing file's name lies in the head
+name_within : (bytes : List ℕ) (h : Header) → header_of bytes ≡ Ok h → h.backing_file_offset ≢ 0 → h.backing_file_offset + h.backing_file_size ≤ length (take (head_size h.cluster_bits) bytes)
+name_within bytes h e there =
     let at : ℕ = h.backing_file_offset in
     let size : ℕ = h.backing_file_size in
     let span : ℕ = head_size h.cluster_bits in
-    let head : List ℕ = take span xs in
-    let name = second (at == 0) (is_name head span at size) there (kept xs h e).1 in
-    let apart = not (touches at size (span - 1024) && touches at size (span - 512)) in
-    let all = both (nat_le size 1023 && nat_le (at + size) (length head) && apart) (is_id (last_part (take size (drop at head)))) name in
-    let early = both (nat_le size 1023 && nat_le (at + size) (length head)) apart all.0 in
-    below (at + size) (length head) (both (nat_le size 1023) (nat_le (at + size) (length head)) early.0).1
+    let head : List ℕ = take span bytes in
+    let apart : Bool = not (touches at size (span - 1024) && touches at size (span - 512)) in
+    let name = second (at == 0) (is_name head span at size) (ne_eqb at 0 there) (kept bytes h e).1 in
+    let all = first ((nat_le size 1023 && nat_le (at + size) (length head)) && apart) (is_id (last_part (take size (drop at head)))) name in
+    let early = first (nat_le size 1023 && nat_le (at + size) (length head)) apart all in
+    below (at + size) (length head) (after (nat_le size 1023) (nat_le (at + size) (length head)) early)
   where
+    first : (a b : Bool) → (a && b) ≡ true → a ≡ true
+    first true b e = refl
+    first false b e = absurd cc
+
+    after : (a b : Bool) → (a && b) ≡ true → b ≡ true
+    after true b e = e
+    after false b e = absurd cc
+
+    second : (a b : Bool) → a ≡ false → (a || b) ≡ true → b ≡ true
+    second true b e f = absurd cc
+    second false b e f = f
+
     below : (a b : ℕ) → nat_le a b ≡ true → a ≤ b
     below a b e = grind (arith, nat_tests)
-
-name_same : (xs ys : List ℕ) (h : Header) → header_of xs ≡ Ok h → take (head_size h.cluster_bits) ys ≡ take (head_size h.cluster_bits) xs → backing_id h ys ≡ backing_id h xs
-name_same xs ys h e same = go (h.backing_file_offset == 0) refl
-  where
-    part : List ℕ → List ℕ
-    part bytes = take h.backing_file_size (drop h.backing_file_offset bytes)
-
-    whole : (h.backing_file_offset == 0) ≡ false → part ys ≡ part xs
-    whole there =
-        let within = name_within xs h e there in
-        let within' : h.backing_file_offset + h.backing_file_size ≤ length (take (head_size h.cluster_bits) ys) = subst (λ (zs : List ℕ). h.backing_file_offset + h.backing_file_size ≤ length zs) (sym same) within in
-        sym (part_of (head_size h.cluster_bits) h.backing_file_offset h.backing_file_size ys within')
-        ∙ ap (λ (zs : List ℕ). take h.backing_file_size (drop h.backing_file_offset zs)) same
-        ∙ part_of (head_size h.cluster_bits) h.backing_file_offset h.backing_file_size xs within
-
-    go : (b : Bool) → (h.backing_file_offset == 0) ≡ b → backing_id h ys ≡ backing_id h xs
-    go true t = ap (λ (b : Bool). if b then None else id_of (last_part (part ys))) t ∙ sym (ap (λ (b : Bool). if b then None else id_of (last_part (part xs))) t)
-    go false t = ap (λ (zs : List ℕ). if h.backing_file_offset == 0 then None else id_of (last_part zs)) (whole t)
 
 -- ---- of a file
 
@@ -249,15 +233,27 @@ module _ (n p capacity : ℕ) (s s' : ℕ → List ℕ) (h : Header) (are : AreS
         go : (m count l : ℕ) → min m l ≡ 512 * count → 8 ≤ count → 512 ≤ l
         go m count l e le = omega (arith, e, le)
 
-    pub front_kept : take (head_size h.cluster_bits) (file_of n s').head ≡ take (head_size h.cluster_bits) (file_of n s).head
+    front_kept : take (head_size h.cluster_bits) (file_of n s').head ≡ take (head_size h.cluster_bits) (file_of n s).head
     front_kept = head_front s' long' ∙ front_same (sector_in n s) (sector_in n s') 0 count (λ k low lt. sectors_same k (omega (arith, lt))) ∙ sym (head_front s (λ k lt. long k))
 
     pub header_front : layer_header (file_of n s') capacity ≡ Ok h
     header_front = layer_header_same n capacity s s' h (header_same (file_of n s).head (file_of n s').head h read head_long front_kept ∙ sym read) is
 
-    parent_front : backing_id h (file_of n s').head ≡ backing_id h (file_of n s).head
-    parent_front = name_same (file_of n s).head (file_of n s').head h read front_kept
+    -- the backing file's name lies in the first cluster
+    pub parent_front : backing_id h (file_of n s').head ≡ backing_id h (file_of n s).head
+    parent_front = go (h.backing_file_offset == 0) refl
+      where
+        go : (b : Bool) → (h.backing_file_offset == 0) ≡ b → backing_id h (file_of n s').head ≡ backing_id h (file_of n s).head
+        go true e = ap (λ b. if b then None else id_of (last_part (take h.backing_file_size (drop h.backing_file_offset (file_of n s').head)))) e ∙ sym (ap (λ b. if b then None else id_of (last_part (take h.backing_file_size (drop h.backing_file_offset (file_of n s).head)))) e)
+        go false e =
+            let within = name_within (file_of n s).head h read (eqb-false h.backing_file_offset 0 e) in
+            let within' : h.backing_file_offset + h.backing_file_size ≤ length (take (head_size h.cluster_bits) (file_of n s').head) = subst (λ (x : List ℕ). h.backing_file_offset + h.backing_file_size ≤ length x) (sym front_kept) within in
+            ap (λ x. if h.backing_file_offset == 0 then None else id_of (last_part x))
+            (sym (part_of (head_size h.cluster_bits) h.backing_file_offset h.backing_file_size (file_of n s').head within')
+            ∙ ap (λ x. take h.backing_file_size (drop h.backing_file_offset x)) front_kept
+            ∙ part_of (head_size h.cluster_bits) h.backing_file_offset h.backing_file_size (file_of n s).head within)
 
+  -- a cluster other than the first one changes
   first_kept : p % c ≡ 0 → p ≢ 0 → SameOutside p c s s' → (k : ℕ) → k < count → s' k ≡ s k
   first_kept even some same k lt = same k (inl (below p c q k (whole_sector p c q width even) width behind lt))
     where
@@ -276,10 +272,8 @@ module _ (n p capacity : ℕ) (s s' : ℕ → List ℕ) (h : Header) (are : AreS
       below : (p c' q' k : ℕ) → p % 512 ≡ 0 → c' ≡ 512 * q' → c' ≤ p → k < min q' 128 → k < p / 512
       below p c' q' k sectors e le lt = omega (arith, sectors, e, le, lt)
 
-  -- a cluster other than the first one changes
   pub header_kept : p % c ≡ 0 → p ≢ 0 → SameOutside p c s s' → layer_header (file_of n s') capacity ≡ Ok h
   header_kept even some same = header_front (first_kept even some same)
 
-  -- nor does the backing file's name
   pub parent_kept : p % c ≡ 0 → p ≢ 0 → SameOutside p c s s' → backing_id h (file_of n s').head ≡ backing_id h (file_of n s).head
   parent_kept even some same = parent_front (first_kept even some same)

@@ -1,3 +1,4 @@
+pub mod Blocks
 pub mod Capacities
 pub mod Clusters
 pub mod Covers

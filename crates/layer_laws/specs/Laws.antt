@@ -53,6 +53,13 @@ pub record Recounted (h : Header) (capacity x count : ℕ) (f g : File) : Type 0
   pub counts_kept : (y : ℕ) → y ≢ x → count_of (layer h g) y ≡ count_of (layer h f) y
   pub bytes : (i : ℕ) → own_byte (layer h g) i ≡ own_byte (layer h f) i
 
+-- counts that stand in block k are others, and all else is as it was
+pub record BlockRecounted (h : Header) (capacity k : ℕ) (f g : File) : Type 0 where
+  pub same : SameLayer h capacity f g
+  pub counts_now : (x : ℕ) → x / block_span (layer h f) ≡ k → count_of (layer h g) x ≡ g.half (count_index (layer h f) x)
+  pub counts_kept : (x : ℕ) → x / block_span (layer h f) ≢ k → count_of (layer h g) x ≡ count_of (layer h f) x
+  pub bytes : (i : ℕ) → own_byte (layer h g) i ≡ own_byte (layer h f) i
+
 -- the sectors of a file are the same but for one number of 8 bytes, the one with index w
 pub record OnlyWord (w : ℕ) (s s' : ℕ → List ℕ) : Type 0 where
   pub others : (k : ℕ) → k ≢ w / 64 → s' k ≡ s k

@@ -6,7 +6,7 @@ ghost use Rattle.qcow_format.specs.Name.{backing_id};
 ghost use Rattle.image_model.specs.File.{File, file_of};
 ghost use Rattle.image_model.specs.Layer.{block_at, block_place, block_word, block_span, count_of, entries, entry_at, l1_at, l1_clusters, l1_entry, l2_at, l2_entry, own_byte};
 ghost use Rattle.image_model.specs.Soundness.{IsSound, layer_header, names};
-ghost use Rattle.layer_laws.specs.Laws.{AreSectors, AreZeros, Entered, IsNamedOnlyAt, IsUnnamed, OnlyHalf, OnlyWord, Overwritten, Placed, Rebased, Recounted, SameContent, SameOutside, block_position, count_index, entry_position, l1_position, layer, plain, with_l1};
+ghost use Rattle.layer_laws.specs.Laws.{AreSectors, AreZeros, BlockRecounted, Entered, IsNamedOnlyAt, IsUnnamed, OnlyHalf, OnlyWord, Overwritten, Placed, Rebased, Recounted, SameContent, SameOutside, block_position, count_index, entry_position, l1_position, layer, plain, with_l1};
 
 /// A law: a cluster without a count is named by nothing.
 pub fn uncounted_is_unnamed()
@@ -18,12 +18,6 @@ pub fn frame()
     ensures { (n capacity p : ℕ) (s s' : ℕ → List ℕ) (h : Header) → AreSectors n s → layer_header (file_of n s) capacity ≡ Ok h
         → IsSound (file_of n s) capacity → p % 2 ^ h.cluster_bits ≡ 0 → IsUnnamed (layer h (file_of n s)) capacity p
         → SameOutside p (2 ^ h.cluster_bits) s s' → SameContent h capacity (file_of n s) (file_of n s') }
-{}
-
-/// A law: the backing file's name stays where a cluster other than the first one changes.
-pub fn parent_kept()
-    ensures { (n capacity p : ℕ) (s s' : ℕ → List ℕ) (h : Header) → AreSectors n s → layer_header (file_of n s) capacity ≡ Ok h
-        → p % 2 ^ h.cluster_bits ≡ 0 → p ≢ 0 → SameOutside p (2 ^ h.cluster_bits) s s' → backing_id h (file_of n s').head ≡ backing_id h (file_of n s).head }
 {}
 
 /// A law: the sectors of a cluster of data may change, and only its own bytes do.
@@ -47,6 +41,22 @@ pub fn refill()
     ensures { (n capacity k p : ℕ) (s s' : ℕ → List ℕ) (h : Header) → AreSectors n s → layer_header (file_of n s) capacity ≡ Ok h
         → IsSound (file_of n s) capacity → entry_at (layer h (file_of n s)) k ≡ Zero p → p ≢ 0
         → SameOutside p (2 ^ h.cluster_bits) s s' → SameContent h capacity (file_of n s) (file_of n s') }
+{}
+
+/// A law: the counts of a block that is there may become others, which aren't 0 where a position names the cluster.
+pub fn recount_block()
+    ensures { (n capacity k : ℕ) (s s' : ℕ → List ℕ) (h : Header) → AreSectors n s → layer_header (file_of n s) capacity ≡ Ok h
+        → IsSound (file_of n s) capacity → block_place (layer h (file_of n s)) k ≢ 0
+        → SameOutside (block_place (layer h (file_of n s)) k) (2 ^ h.cluster_bits) s s'
+        → ((m place : ℕ) → names (layer h (file_of n s)) capacity m ≡ Some place → place / 2 ^ h.cluster_bits / block_span (layer h (file_of n s)) ≡ k → 0 < (file_of n s').half (count_index (layer h (file_of n s)) (place / 2 ^ h.cluster_bits)))
+        → BlockRecounted h capacity k (file_of n s) (file_of n s') }
+{}
+
+/// A law: the backing file is the same where the sectors of another cluster than the header's change.
+pub fn keep_parent()
+    ensures { (n capacity p : ℕ) (s s' : ℕ → List ℕ) (h : Header) → AreSectors n s → layer_header (file_of n s) capacity ≡ Ok h
+        → p % 2 ^ h.cluster_bits ≡ 0 → p ≢ 0 → SameOutside p (2 ^ h.cluster_bits) s s'
+        → backing_id h (file_of n s').head ≡ backing_id h (file_of n s).head }
 {}
 
 /// A law: the entry of a cluster of the virtual disk may become data at a place that begins a cluster inside the file,

@@ -4,6 +4,6 @@
 mod laws;
 
 pub use laws::{
-    allocate, cover, enter, frame, grown, link, overwrite, parent_kept, rebased, recount, refill,
-    resized, taller, uncounted_is_unnamed,
+    allocate, cover, enter, frame, grown, keep_parent, link, overwrite, rebased, recount,
+    recount_block, refill, resized, taller, uncounted_is_unnamed,
 };
