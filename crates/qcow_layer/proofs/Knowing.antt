@@ -84,7 +84,7 @@ pub known_untouched : (layer : Layer) (host : ℕ) (d e : Content) → e.file la
 known_untouched layer host d e same knows = record { file = knows.file; there = same ∙ knows.there; knows = knows.knows }
 
 -- another host has nothing unsynced in the file
-others_settled : (host other : ℕ) (f : File) → host ≢ other → IsAlone host f → f.fresh ≡ None → IsSettledFor other f
+pub others_settled : (host other : ℕ) (f : File) → host ≢ other → IsAlone host f → f.fresh ≡ None → IsSettledFor other f
 others_settled host other f apart alone made = record {
   loose = λ l in_file is. nothing_in l (subst (λ ls. Contains ls l) alone.loose (without_keeps host f.loose l (λ e. apart (sym e ∙ is)) in_file));
   fresh = λ e. no_host other (sym made ∙ e);

@@ -1,6 +1,7 @@
 pub mod Knowing
 pub mod Left
 pub mod Looking
+pub mod Mapping
 pub mod Opening
 pub mod Seen
 pub mod Stages

@@ -1,5 +1,5 @@
 // A layer that was opened.
-ghost use Rattle.std.specs.Prelude.{◌≡◌};
+ghost use Rattle.std.specs.Prelude.{◌≡◌, ◌<◌};
 
 use crate::stages::Target;
 use layer_walk::Work;
@@ -15,6 +15,8 @@ pub struct Layer {
 
 impl Layer {
     ghost use Rattle.qcow_layer.specs.Opening.{capacity_kept, header_kept, parent_kept, place_kept, volume_kept};
+    ghost use Rattle.qcow_layer.specs.Knowing.{is_free, mapped};
+    ghost use Rattle.qcow_layer.specs.Mapping.{IsLeastFree, IsTaken};
 
     /// The volume whose layer it is.
     pub fn volume(&self) -> Id
@@ -50,5 +52,40 @@ impl Layer {
         ensures { result ≡ parent_kept self.now }
     {
         self.work.parent
+    }
+
+    /// How many clusters the layer's map has.
+    pub fn mapped(&self) -> u64
+        ensures { result ≡ mapped self.now }
+    {
+        self.work.marks.free.room()
+    }
+
+    /// Whether the map says that a cluster of the file is free. One that it doesn't have isn't.
+    pub fn is_free(&self, cluster: u64) -> bool
+        ensures { result ≡ is_free self.now cluster }
+    {
+        self.work.marks.free.has(cluster)
+    }
+
+    /// The least free cluster from `first` on below `end`.
+    pub fn least_free(&self, first: u64, end: u64) -> Option<u64>
+        ensures { IsLeastFree self.now first end result }
+    {
+        let end = end.min(self.mapped());
+        for cluster in first..end {
+            if self.is_free(cluster) {
+                return Some(cluster);
+            }
+        }
+        None
+    }
+
+    /// Says in the map that a cluster of the file isn't free.
+    pub fn take(&mut self, cluster: u64)
+        requires { cluster < mapped self.old }
+        ensures { IsTaken self.old cluster self.new }
+    {
+        self.work.marks.free.remove(cluster);
     }
 }
