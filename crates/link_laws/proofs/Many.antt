@@ -25,7 +25,7 @@ use Rattle.layer_laws.proofs.Sound.{Shape, clean_of, entry_lt, header_name, shap
 use Rattle.link_laws.specs.Links.{AreLinks, IsAmong, IsCounted, IsLaid, Linked, byte_with, entry_with, laid, lay, no_table, row_of, sector_at}
 use Rattle.link_laws.proofs.Rows as rows
 use Rattle.link_laws.proofs.Rows.{lies_whole, place_in}
-use Rattle.link_laws.proofs.Words.{data_read, length_laid, word_laid, word_laid_now, word_lay}
+use Rattle.link_laws.proofs.Words.{data_read, laid_more, laid_none, length_laid, word_laid, word_laid_now, word_lay}
 
 -- a name without a fault lies inside the file
 named_inside : (size : ℕ) (x : Item) (place : ℕ) → own_fault size x ≡ None → x.name ≡ Some place → place < size
@@ -219,13 +219,13 @@ module _ (n capacity group table : ℕ) (to : ℕ → Option ℕ) (s s' : ℕ �
       none k (inr le) = sym (below_out 0 k (omega (arith, le)))
 
       same : (k : ℕ) → (k ≡ sector) ⊎ (k ≢ sector) → s k ≡ at 0 k
-      same k (inl e) = ap s e ∙ sym (ap (λ (x : ℕ). at 0 x) e ∙ at_here 0)
+      same k (inl e) = ap s e ∙ sym (ap (λ (x : ℕ). at 0 x) e ∙ at_here 0 ∙ laid_none to first (s sector))
       same k (inr ne) = sym (at_other 0 k ne)
 
   -- an entry that gets no place
   pass : (m : ℕ) → to (first + m) ≡ None → Upto (below m) (file_of n (at m)) → Upto (below (suc m)) (file_of n (at (suc m)))
   pass m none upto = moved (below m) (below (suc m)) (at m) (at (suc m)) (λ k. same k (cases_lt k (first + m)) (same_or_not k (first + m)))
-      (λ k. ap (λ (o : Option ℕ). if k == sector then lay o m (laid to first m (s sector)) else s k) (sym none)) upto
+      (λ k. ap (λ (x : List ℕ). if k == sector then x else s k) (sym (laid_more to first m (s sector) ∙ ap (λ (o : Option ℕ). lay o m (laid to first m (s sector))) none))) upto
     where
       same : (k : ℕ) → (k < first + m) ⊎ (first + m ≤ k) → (k ≡ first + m) ⊎ (k ≢ first + m) → below m k ≡ below (suc m) k
       same k (inl lt) other = below_in m k lt ∙ sym (below_in (suc m) k (omega (arith, lt)))
@@ -250,7 +250,7 @@ module _ (n capacity group table : ℕ) (to : ℕ → Option ℕ) (s s' : ℕ �
     counted = links.counted k place given
 
     now_laid : at (suc m) sector ≡ lay (Some place) m (laid to first m (s sector))
-    now_laid = at_here (suc m) ∙ ap (λ (o : Option ℕ). lay o m (laid to first m (s sector))) given
+    now_laid = at_here (suc m) ∙ laid_more to first m (s sector) ∙ ap (λ (o : Option ℕ). lay o m (laid to first m (s sector))) given
 
     len : length (laid to first m (s sector)) ≡ 512
     len = length_laid to first m (s sector) (are sector sector_lt) (omega (arith, lt))

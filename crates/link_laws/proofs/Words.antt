@@ -88,13 +88,22 @@ zero_word k = ap (λ xs. big_from 0 8 xs) (drop-replicate (k * 8) 512 0) ∙ zer
 
 -- ---- the sector
 
-length_lay : (o : Option ℕ) (m : ℕ) (bytes : List ℕ) → length bytes ≡ 512 → m < 64 → length (lay o m bytes) ≡ 512
+pub length_lay : (o : Option ℕ) (m : ℕ) (bytes : List ℕ) → length bytes ≡ 512 → m < 64 → length (lay o m bytes) ≡ 512
 length_lay None m bytes len lt = len
 length_lay (Some place) m bytes len lt =
     let new : length (bytes_of 8 (word_of (Data place))) ≡ 8 = length-bytes_of 8 (word_of (Data place)) in
     length-put (m * 8) (bytes_of 8 (word_of (Data place))) bytes (omega (arith, new, len, lt)) ∙ len
 
+pub laid_none : (to : ℕ → Option ℕ) (first : ℕ) (bytes : List ℕ) → laid to first 0 bytes ≡ bytes
+unfolding laid
+laid_none to first bytes = refl
+
+pub laid_more : (to : ℕ → Option ℕ) (first m : ℕ) (bytes : List ℕ) → laid to first (suc m) bytes ≡ lay (to (first + m)) m (laid to first m bytes)
+unfolding laid
+laid_more to first m bytes = refl
+
 pub length_laid : (to : ℕ → Option ℕ) (first m : ℕ) (bytes : List ℕ) → length bytes ≡ 512 → m ≤ 64 → length (laid to first m bytes) ≡ 512
+unfolding laid
 length_laid to first zero bytes len le = len
 length_laid to first (suc m) bytes len le = length_lay (to (first + m)) m (laid to first m bytes) (length_laid to first m bytes len (omega (arith, le))) (omega (arith, le))
 
@@ -123,6 +132,7 @@ word_laid_now place m bytes len lt = number-put_same 8 (m * 8) (word_of (Data pl
 
 -- each of the words that were laid in
 pub word_laid : (to : ℕ → Option ℕ) (first m k place : ℕ) (bytes : List ℕ) → length bytes ≡ 512 → m ≤ 64 → k < m → to (first + k) ≡ Some place → number 8 (k * 8) (laid to first m bytes) ≡ word_of (Data place)
+unfolding laid
 word_laid to first zero k place bytes len le lt is = absurd (omega (arith, lt))
 word_laid to first (suc m) k place bytes len le lt is = go (λ lt. word_laid to first m k place bytes len (omega (arith, le)) lt is) (same_or_not k m)
   where

@@ -10,7 +10,7 @@ use Rattle.qcow_format.specs.declared.entry.Entry.TheVariants.{Data}
 use Rattle.image_model.specs.File.{File}
 use Rattle.image_model.specs.Layer.{Tables, block_place, cluster_size, count_of, entries, entry_at, l1_at, l1_entry, l2_at, own_byte}
 use Rattle.image_model.specs.Soundness.{IsSound, layer_header, names}
-use Rattle.layer_laws.specs.Laws.{IsNamedOnlyAt, entry_position, layer}
+use Rattle.layer_laws.specs.Laws.{IsNamedOnlyAt, IsUnnamed, entry_position, layer}
 
 -- ---- what is entered: `to k` is the place of cluster k of the virtual disk, or None where it gets none
 
@@ -31,6 +31,12 @@ pub record AreLinks (t : Tables) (capacity group : ℕ) (to : ℕ → Option ℕ
   pub free : (k place : ℕ) → to k ≡ Some place → IsNamedOnlyAt t capacity (entry_position t k) place
   pub once : (j k place : ℕ) → to j ≡ Some place → to k ≡ Some place → j ≡ k
 
+-- A place for a new L2 table: a cluster with a count that nothing names, and that isn't given to an entry.
+pub record IsNewTable (t : Tables) (capacity : ℕ) (to : ℕ → Option ℕ) (table : ℕ) : Type 0 where
+  pub counted : IsCounted t table
+  pub unnamed : IsUnnamed t capacity table
+  pub other : (k : ℕ) → to k ≡ Some table → ⊥
+
 -- the L1 entry behind which the entries of such a sector stand, and which of its table's sectors it is
 abbrev pub row_of : Tables → ℕ → ℕ
 row_of t group = 64 * group / entries t
@@ -46,7 +52,7 @@ lay None m bytes = bytes
 lay (Some place) m bytes = put (m * 8) (bytes_of 8 (word_of (Data place))) bytes
 
 -- a sector with the first so many of its entries laid in; its first entry is that of a cluster `first`
-abbrev pub laid : (ℕ → Option ℕ) → ℕ → ℕ → List ℕ → List ℕ
+unfoldable pub laid : (ℕ → Option ℕ) → ℕ → ℕ → List ℕ → List ℕ
 laid to first zero bytes = bytes
 laid to first (suc m) bytes = lay (to (first + m)) m (laid to first m bytes)
 

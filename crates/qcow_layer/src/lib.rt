@@ -12,3 +12,4 @@ mod starting;
 pub use layer::Layer;
 pub use looking::{Looked, Looking};
 pub use opening::Opening;
+pub use reading::read_sector;

@@ -10,8 +10,8 @@ use shared_disk::{SharedDisk, refusal_for};
 /// The longest head of a layer, in bytes.
 pub(crate) const HEAD: usize = 65536;
 
-/// Reads the sector that begins at a place of the file, in bytes.
-pub(crate) fn read_sector<D: SharedDisk>(
+/// Reads the sector that begins at a place of the file, in bytes: zeros where it lies past the end. 120 and 122 alone.
+pub fn read_sector<D: SharedDisk>(
     host: HostId,
     disk: &mut D,
     place: Place,
