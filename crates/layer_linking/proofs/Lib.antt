@@ -6,3 +6,5 @@ pub mod Outcomes
 pub mod Finds
 pub mod Ends
 pub mod Fills
+pub mod Given
+pub mod Survives

@@ -1,11 +1,11 @@
 -- A linking between its steps, and the one call that each step makes.
-use Rattle.std.specs.Prelude.{◌≡◌, ℕ, ◌+◌, ◌-◌, ◌*◌, ◌/◌, ◌%◌, ◌^◌, ◌==◌, nat_lt, if◌then◌else◌, min, List, Option, Some, None, Result, Ok, Err, MatchResult}
+use Rattle.std.specs.Prelude.{◌≡◌, ℕ, ◌+◌, ◌-◌, ◌*◌, ◌/◌, ◌%◌, ◌^◌, ◌==◌, nat_lt, if◌then◌else◌, min, replicate, List, Option, Some, None, Result, Ok, Err, MatchResult}
 use Rattle.sd_names.specs.declared.absence.Absence.TheVariants as absence
 use Rattle.sd_names.specs.declared.fault.LayerFault.{LayerFault}
 use Rattle.sd_names.specs.declared.refusal.Refusal.{Refusal}
 use Rattle.sd_names.specs.declared.refusal.Refusal.TheVariants.{Vanished}
 use Rattle.sd_names.specs.declared.turn.Turn.{Turn}
-use Rattle.sd_names.specs.declared.turn.Turn.TheVariants.{More, Ended}
+use Rattle.sd_names.specs.declared.turn.Turn.TheVariants.{More, Done, Ended}
 use Rattle.shared_disk.specs.Content.{Content}
 use Rattle.shared_disk.specs.Calls.{Syncs, WriteAt}
 use Rattle.shared_disk.specs.Step.{TurnFollows}
@@ -135,3 +135,17 @@ WritesThen l layer host k faults bytes stage turn d e =
 abbrev pub SyncsThen : Layer → ℕ → ℕ → Turn Linking (Unit {0}) (Unit {0}) → Turn Linking (Unit {0}) (Unit {0}) → Content → Content → Type 0
 SyncsThen layer host faults next turn d e =
     (answer : Result (Unit {0}) DiskAnswer) × Syncs d host (place_kept layer) answer e × TurnFollows answer faults turn (λ _. turn ≡ next)
+
+-- The call of a step, by its stage, whatever stands in the file: some answer that fits the call, and the turn that follows
+-- from it.
+abbrev pub CallOf : Stage → Linking → Layer → ℕ → ℕ → Turn Linking (Unit {0}) (Unit {0}) → Content → Content → Type 0
+CallOf Begun l layer host faults turn d e = FindsTable l layer host faults turn d e
+CallOf (Found table) l layer host faults turn d e = LaysEntries l table layer host faults turn d e
+CallOf (Filling table piece) l layer host faults turn d e =
+    WritesThen l layer host (piece_sector (header_kept layer) table piece) faults (replicate (piece_size (header_kept layer)) 0) (stage_behind (header_kept layer) table piece) turn d e
+CallOf (Zeroed table) l layer host faults turn d e =
+    WritesThen l layer host (entries_sector (header_kept layer) (group_of l) table) faults (laid (to_of l) (64 * group_of l) 64 (replicate 512 0)) (Filled table) turn d e
+CallOf (Filled table) l layer host faults turn d e = SyncsThen layer host faults (More (at_stage l (Synced table))) turn d e
+CallOf (Synced table) l layer host faults turn d e = LaysTable l table layer host faults turn d e
+CallOf (Laid at sector) l layer host faults turn d e = WritesThen l layer host (at / 512) faults sector Entered turn d e
+CallOf Entered l layer host faults turn d e = SyncsThen layer host faults (Done tt) turn d e

@@ -2,6 +2,7 @@
 #![tactic(auto)]
 
 mod filling;
+pub mod laws;
 mod linking;
 mod links;
 mod reading;

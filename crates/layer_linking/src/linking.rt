@@ -42,7 +42,7 @@ pub struct Linking {
 }
 
 impl Linking {
-    ghost use Rattle.layer_linking.specs.Calls.{IsSameLinking, first_stage, group_of, links_of, stage_of, steps_left, table_given, table_of, to_of};
+    ghost use Rattle.layer_linking.specs.Calls.{CallOf, IsSameLinking, first_stage, group_of, links_of, stage_of, steps_left, table_given, table_of, to_of};
     ghost use Rattle.layer_linking.specs.Linking.{Steps};
     ghost use Rattle.shared_disk.specs.Step.{EndsOnlyBy, IsDiskRefusal, NearsEnd, StepCounts};
 
@@ -89,6 +89,7 @@ impl Linking {
         ensures refusals { EndsOnlyBy IsDiskRefusal result }
         ensures layer { layer.new ≡ layer.old }
         ensures keeps { NearsEnd (IsSameLinking self) (steps_left layer.old) (steps_left layer.old self) result }
+        ensures call { Told (D.content disk.old) (D.content disk.new) (CallOf (stage_of self) self layer.old host (D.faults disk.new) result) }
         ensures content { Told (D.content disk.old) (D.content disk.new) (Steps self layer.old host result) }
     {
         match self.stage {
