@@ -1,0 +1,6 @@
+mod Lengths
+mod Headers
+mod Numbers
+mod Sound
+mod Steps
+mod Stages
