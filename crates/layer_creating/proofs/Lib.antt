@@ -1,6 +1,7 @@
-mod Lengths
-mod Headers
-mod Numbers
-mod Sound
-mod Steps
-mod Stages
+pub mod Lengths
+pub mod Headers
+pub mod Numbers
+pub mod Sound
+pub mod New
+pub mod Steps
+pub mod Stages

@@ -43,7 +43,7 @@ numbers_on layer n m s r le same knows = record {
 seen_settled : (host k : ℕ) (f : File) → IsSettled f → seen host f k ≡ f.stable k
 seen_settled host k f settled = ap (λ (ls : List Loose). unwrap_or (own_of host k ls) (f.stable k)) settled.loose
 
-alone_settled : (host : ℕ) (f : File) → IsSettled f → IsAlone host f
+pub alone_settled : (host : ℕ) (f : File) → IsSettled f → IsAlone host f
 alone_settled host f settled = record { loose = ap (without host) settled.loose; fresh = ap (unless_by host) settled.fresh }
 
 -- what the host sees of a file, by the sectors that it has, is what it saw when its length was asked
@@ -54,7 +54,7 @@ seen_still host count place sectors d s k = go (cases_lt k s.file.size)
     go (inl lt) = in_file s.file.size k (seen host s.file) lt ∙ s.same k lt
     go (inr le) = past_end s.file.size k (seen host s.file) le ∙ sym (past_end count k sectors (omega (arith, s.long, le)))
 
-as_seen : (host : ℕ) (f : File) → IsSettled f → seen host f ≡ f.stable
+pub as_seen : (host : ℕ) (f : File) → IsSettled f → seen host f ≡ f.stable
 as_seen host f settled = λ i k. seen_settled host k f settled i
 
 pub opened_known : (layer : Layer) (host count : ℕ) (sectors : ℕ → List ℕ) (d : Content) → (s : IsSeen host layer.target.place count sectors d) → IsSettled s.file → 512 * s.file.size < 2 ^ 64

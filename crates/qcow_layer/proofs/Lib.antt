@@ -1,3 +1,5 @@
+pub mod Anew
+pub mod Multiples
 pub mod Entries
 pub mod Knowing
 pub mod Known

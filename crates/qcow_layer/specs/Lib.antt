@@ -1,3 +1,4 @@
+pub mod Fresh
 pub mod Knowing
 pub mod Left
 pub mod Looking

@@ -1,5 +1,7 @@
 -- The map of an opened layer's clusters, for those who write it.
 use Rattle.std.specs.Prelude.{◌≡◌, ◌≢◌, ℕ, ◌<◌, ◌≤◌, true, false, Option, Some, None}
+use Rattle.sd_names.specs.declared.id.Id.{Id}
+use Rattle.qcow_format.specs.declared.header.Header.{Header}
 use Rattle.qcow_layer.specs.Knowing.{is_free, mapped}
 use Rattle.qcow_layer.specs.declared.layer.Layer.{Layer}
 
@@ -22,3 +24,23 @@ abbrev pub IsLeastFree : Layer → ℕ → ℕ → Option ℕ → Type 0
 IsLeastFree layer first end None = (c : ℕ) → first ≤ c → c < end → c < mapped layer → is_free layer c ≡ false
 IsLeastFree layer first end (Some cluster) =
     (first ≤ cluster) × (cluster < end) × (is_free layer cluster ≡ true) × ((c : ℕ) → first ≤ c → c < cluster → is_free layer c ≡ false)
+
+-- ---- its header and its capacity
+
+-- another header has the same clusters, with the tables at the same places
+pub record HasSameGrid (h next : Header) : Type 0 where
+  pub bits : next.cluster_bits ≡ h.cluster_bits
+  pub l1 : next.l1_table_offset ≡ h.l1_table_offset
+  pub table : next.refcount_table_offset ≡ h.refcount_table_offset
+
+-- the layer with another header and parent
+pub record IsWithHeader (layer : Layer) (header : Header) (parent : Option Id) (next : Layer) : Type 0 where
+  pub target : next.target ≡ layer.target
+  pub header_is : next.work.header ≡ header
+  pub parent_is : next.work.parent ≡ parent
+  pub marks : next.work.marks ≡ layer.work.marks
+
+-- the layer with another capacity
+pub record IsWithCapacity (layer : Layer) (capacity : ℕ) (next : Layer) : Type 0 where
+  pub target : next.target ≡ record layer.target { capacity = capacity }
+  pub work : next.work ≡ layer.work

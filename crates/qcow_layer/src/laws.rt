@@ -1,8 +1,12 @@
 // Laws of opening and of opened layers: contracts of functions that do nothing.
-ghost use Rattle.std.specs.Prelude.{◌≡◌, ◌≢◌, ◌+◌, ◌*◌, ◌/◌, ◌^◌, ◌<◌, ◌≤◌, ℕ, List, Ok, Some, None};
+ghost use Rattle.std.specs.Prelude.{◌≡◌, ◌≢◌, ◌+◌, ◌*◌, ◌/◌, ◌^◌, ◌<◌, ◌≤◌, ℕ, List, Ok, Option, Some, None};
 ghost use Rattle.sd_names.specs.declared.place.Place.{Place};
 ghost use Rattle.shared_disk.specs.Content.{Content, own_of, seen};
 ghost use Rattle.shared_disk.specs.SectorCalls.{IsGrown};
+ghost use Rattle.shared_disk.specs.Content as disk;
+ghost use Rattle.layer_creating.specs.New.{IsCapacity, IsLength, IsNewLayer};
+ghost use Rattle.layer_creating.specs.declared.backing.Backing.{Backing};
+ghost use Rattle.qcow_layer.specs.Fresh.{IsFresh};
 ghost use Rattle.qcow_format.specs.declared.header.Header.{Header};
 ghost use Rattle.image_model.specs.File.{File, file_of};
 ghost use Rattle.image_model.specs.Soundness.{layer_header, names};
@@ -84,4 +88,10 @@ pub fn known_layers_stay_known()
 pub fn known_layers_are_seen()
     ensures { (layer : Layer) (host : ℕ) (d : Content) → (knows : KnowsLayerOn layer host d)
         → IsSeen host (target_kept layer).place knows.file.size (seen host knows.file) d × (512 * knows.file.size < 2 ^ 64) × KnowsNumbers layer (file_of knows.file.size (seen host knows.file)) }
+{}
+
+/// The layer of a file that is made anew is known once the file is made: an opening of it would find the same.
+pub fn fresh_layers_are_known()
+    ensures { (layer : Layer) (id : Id) (at : Place) (capacity greatest : ℕ) (backing : Option Backing) (length host : ℕ) (d : Content) (f : disk.File)
+        → IsFresh layer id at capacity greatest backing length → IsCapacity capacity → IsLength length → d.file at ≡ Some f → IsNewLayer capacity backing length f → KnowsLayerOn layer host d }
 {}

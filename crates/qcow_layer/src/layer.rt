@@ -16,7 +16,7 @@ pub struct Layer {
 impl Layer {
     ghost use Rattle.qcow_layer.specs.Opening.{capacity_kept, header_kept, parent_kept, place_kept, volume_kept};
     ghost use Rattle.qcow_layer.specs.Knowing.{is_free, mapped};
-    ghost use Rattle.qcow_layer.specs.Mapping.{IsLeastFree, IsTaken};
+    ghost use Rattle.qcow_layer.specs.Mapping.{HasSameGrid, IsLeastFree, IsTaken, IsWithCapacity, IsWithHeader};
 
     /// The volume whose layer it is.
     pub fn volume(&self) -> Id
@@ -87,5 +87,21 @@ impl Layer {
         ensures { IsTaken self.old cluster self.new }
     {
         self.work.marks.free.remove(cluster);
+    }
+
+    /// Says that the file has this header, which has the tables at the same places, and this parent.
+    pub fn set_header(&mut self, header: Header, parent: Option<Id>)
+        requires { HasSameGrid (header_kept self.old) header }
+        ensures { IsWithHeader self.old header parent self.new }
+    {
+        self.work.header = header;
+        self.work.parent = parent;
+    }
+
+    /// Says that the volume has this capacity, in bytes.
+    pub fn set_capacity(&mut self, capacity: u64)
+        ensures { IsWithCapacity self.old capacity self.new }
+    {
+        self.target.capacity = capacity;
     }
 }

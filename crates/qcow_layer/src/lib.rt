@@ -1,6 +1,7 @@
 //! Copy-on-write layers in qcow2 files: opening one, which finds its first fault, and looking its clusters up.
 #![tactic(auto)]
 
+mod fresh;
 pub mod laws;
 mod layer;
 mod looking;

@@ -38,9 +38,9 @@ pub(crate) fn step_begun<D: SharedDisk>(
     }
 }
 
-// The length that a file has for a volume of a capacity, in bytes: what the capacity, an eighth of it and 2 MiB come to, in
-// whole units of 65,536 bytes.
-fn roof(capacity: u64) -> u64
+/// The length that a file has for a volume of a capacity, in bytes: what the capacity, an eighth of it and 2 MiB come to, in
+/// whole units of 65,536 bytes.
+pub(crate) fn roof(capacity: u64) -> u64
     ensures { result ≡ roof capacity }
 {
     let length = capacity
