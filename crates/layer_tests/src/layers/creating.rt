@@ -4,7 +4,7 @@ use super::{FILE, GIB, NAME, VOLUME, lay, lay_number, open_layer, over_raw};
 use layer_creating::{Backing, Creating};
 use memory_disk::{Memory, Pick};
 use qcow_layer::Layer;
-use sd_names::{Dir, Format, HostId, Id, Name, NoMemory, Place, Turn};
+use sd_names::{Dir, Format, HostId, Id, Name, NoMemory, Place, Refusal, Turn};
 use shared_disk::{DiskAnswer, SharedDisk};
 use std::alloc::{AllocError, Global};
 use std::test::Fail;
@@ -28,19 +28,39 @@ enum End {
     Stopped,
 }
 
-// Makes the file; the host stops before the step with this number from 1.
-fn make(disk: &mut Memory, host: HostId, capacity: u64, format: Option<Format>, stop: u8) -> End {
-    if capacity < 512 || capacity > GIB {
-        return End::Stopped;
-    }
-    let backing = match format {
+// What the layer lies over: a volume of this format.
+fn over(format: Option<Format>) -> Option<Backing> {
+    match format {
         Some(format) => Some(Backing {
             parent: PARENT,
             format,
         }),
         None => None,
-    };
-    let mut work = Creating::begin(FILE, capacity, backing, LENGTH);
+    }
+}
+
+// The layer of such a file, without reading it.
+fn fresh_layer(alloc: Global, capacity: u64, format: Option<Format>) -> Result<Layer, Refusal> {
+    if capacity < 512 || capacity > GIB {
+        return Err(Refusal::NotBuilt);
+    }
+    Layer::fresh(
+        alloc,
+        VOLUME,
+        FILE,
+        capacity,
+        capacity,
+        over(format),
+        LENGTH,
+    )
+}
+
+// Makes the file; the host stops before the step with this number from 1.
+fn make(disk: &mut Memory, host: HostId, capacity: u64, format: Option<Format>, stop: u8) -> End {
+    if capacity < 512 || capacity > GIB {
+        return End::Stopped;
+    }
+    let mut work = Creating::begin(FILE, capacity, over(format), LENGTH);
     for step in 1..stop {
         match work.step(host, disk) {
             Turn::More(next) => work = next,
@@ -120,20 +140,21 @@ fn made_files_byte_by_byte(rt: HostRuntime) -> Result<(), Fail> {
         assert!(rt; make(&mut disk, host, capacity, format, 9) == End::Done(steps));
         assert!(rt; stands(&disk, &file), "{capacity} bytes");
         // It opens, as the layer that is taken without reading it.
-        let backing = match format {
-            Some(format) => Some(Backing {
-                parent: PARENT,
-                format,
-            }),
-            None => None,
-        };
-        let fresh = Layer::fresh(rt.alloc(), VOLUME, FILE, capacity, capacity, backing, LENGTH)?;
+        let fresh = fresh_layer(rt.alloc(), capacity, format)?;
         let opened = open_layer(rt.alloc(), &mut disk, host, capacity)?;
         assert!(rt; *fresh.header() == *opened.header());
         assert!(rt; fresh.parent() == opened.parent());
-        assert!(rt; fresh.volume() == VOLUME && fresh.place() == FILE && fresh.capacity() == capacity);
+        assert!(rt;
+            fresh.volume() == VOLUME && fresh.place() == FILE && fresh.capacity() == capacity
+        );
         assert!(rt; fresh.mapped() == opened.mapped());
-        for (cluster, free) in [(0, false), (3, false), (4, true), (19, true), (u64::MAX, false)] {
+        for (cluster, free) in [
+            (0, false),
+            (3, false),
+            (4, true),
+            (19, true),
+            (u64::MAX, false),
+        ] {
             assert!(rt; fresh.is_free(cluster) == free && opened.is_free(cluster) == free);
         }
     }
