@@ -91,9 +91,9 @@ pub record Entered (h : Header) (capacity k place : ℕ) (f g : File) : Type 0 w
 abbrev pub AreZeros : ℕ → ℕ → (ℕ → List ℕ) → Type 0
 AreZeros n n' s = (k : ℕ) → n ≤ k → k < n' → s k ≡ replicate 512 0
 
--- a header but for what it says of the backing file
+-- a header but for what it says of the backing file, and for the features that a writer clears
 abbrev pub plain : Header → Header
-plain h = record h { backing_file_offset = 0; backing_file_size = 0; name = (0, 0); format_at = None; format = None }
+plain h = record h { backing_file_offset = 0; backing_file_size = 0; autoclear_features = 0; name = (0, 0); format_at = None; format = None }
 
 -- another file is a layer as sound with another backing file
 pub record Rebased (h h' : Header) (capacity : ℕ) (f g : File) : Type 0 where

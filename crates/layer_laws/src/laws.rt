@@ -131,7 +131,8 @@ pub fn taller()
         → (layer_header file larger ≡ Ok h) × IsSound file larger × ((m : ℕ) → names (layer h file) larger m ≡ names (layer h file) capacity m) }
 {}
 
-/// A law: the header's cluster may change, where the header that is read from it differs only in the backing file.
+/// A law: the header's cluster may change, where the header that is read from it differs only in the backing file and in the
+/// features that a writer clears.
 pub fn rebased()
     ensures { (n capacity : ℕ) (s s' : ℕ → List ℕ) (h h' : Header) → layer_header (file_of n s) capacity ≡ Ok h → layer_header (file_of n s') capacity ≡ Ok h'
         → plain h' ≡ plain h → SameOutside 0 (2 ^ h.cluster_bits) s s' → IsSound (file_of n s) capacity → Rebased h h' capacity (file_of n s) (file_of n s') }
