@@ -1,0 +1,5 @@
+pub mod Empty
+pub mod Kept
+pub mod Settles
+pub mod Flats
+pub mod Frames

@@ -1,0 +1,99 @@
+-- Laws of disks that stand for a pool, as statements.
+use Rattle.std.specs.Prelude.{◌≡◌, ◌≢◌, ◌⊎◌, ℕ, false, List, Some, None, Ok}
+use Rattle.sd_names.specs.UpSet.{Hosts, is_up}
+use Rattle.sd_names.specs.declared.id.Id.{Id}
+use Rattle.sd_names.specs.declared.kinds.Legality.TheVariants.{Legal}
+use Rattle.sd_names.specs.declared.place.Dir.TheVariants as dir
+use Rattle.sd_names.specs.declared.place.Name.{Name}
+use Rattle.shared_disk.specs.Content.{Content, IsEmpty}
+use Rattle.shared_disk.specs.Crash.{IsAllSettled, IsOutcome}
+use Rattle.volume_meta.specs.declared.record.VolumeRecord.{VolumeRecord}
+use Rattle.domain_meta.specs.declared.record.DomainRecord.{DomainRecord}
+use Rattle.lease_area.specs.declared.sector.LeaseRecord.{LeaseRecord}
+use Rattle.chain_model.specs.Chain.{IsBelow}
+use Rattle.chain_model.specs.Flat.{IsSectorOf, flat}
+use Rattle.chain_model.specs.Folder.{Volumes, folder_of, volumes_of}
+use Rattle.chain_model.specs.Records.{Image as ImageIn, records_of}
+use Rattle.pool_model.specs.Covered.{Covered, Keeps}
+use Rattle.pool_model.specs.Leases.{IsGuest, IsNamed, Leads, NamesAt}
+use Rattle.pool_model.specs.Owned.{AlsoLonger, OwnedImages}
+use Rattle.pool_model.specs.Pool.{History, Image, Pool, Volume, no_pool}
+use Rattle.pool_model.specs.Standing.{ImageStands, Stands}
+use Rattle.pool_model.specs.Tasks.{IsMaking}
+
+-- ---- the empty disk
+
+abbrev pub EmptyStands : Type 0
+EmptyStands = (up : Hosts) (d : Content) (history : History) → IsEmpty d → Stands up d (no_pool history)
+
+-- ---- what each standing disk has
+
+abbrev pub StandingIsCovered : Type 0
+StandingIsCovered = (up : Hosts) (d : Content) (p : Pool) → Stands up d p → Covered d p
+
+abbrev pub StandingKeeps : Type 0
+StandingKeeps = (up : Hosts) (d : Content) (p : Pool) → Stands up d p → Keeps up d p
+
+abbrev pub Nobody : Hosts → Type 0
+Nobody up = (h : ℕ) → is_up up h ≡ false
+
+abbrev pub NobodySettles : Type 0
+NobodySettles = (up : Hosts) (d : Content) (p : Pool) → Nobody up → Stands up d p → IsAllSettled d
+
+-- an image of a listed domain that is named, and that no open task makes or removes: more is claimed of it than its sector
+pub record IsClaimed (p : Pool) (sd i : Id) (r : DomainRecord) (m : Image) : Type 0 where
+  pub listed : p.domain sd ≡ Some r
+  pub named : IsNamed p sd i
+  pub idle : IsMaking p sd i → ⊥
+  pub image : p.image sd i ≡ Some m
+
+abbrev pub NobodyTears : Type 0
+NobodyTears = (up : Hosts) (d : Content) (p : Pool) (sd i : Id) (r : DomainRecord) (m : Image) → Nobody up → Stands up d p → IsClaimed p sd i r m → m.torn ≡ None
+
+-- ---- what the flat lists mean
+
+-- the volumes of an image, and the image as their texts are read
+abbrev pub volumes_in : Content → Id → Id → Volumes
+volumes_in d sd i = volumes_of (folder_of (dir.Image sd i) d)
+
+abbrev pub image_in : Id → Id → DomainRecord → ImageIn
+image_in sd i r = record { domain = sd; id = i; version = r.version }
+
+-- the volume reads as this list, sector by sector, through the chain of volumes below it
+abbrev pub ReadsThrough : ImageIn → Volumes → Id → (ℕ → List ℕ) → Type 0
+ReadsThrough i x v list =
+    (vs : List Id) × IsBelow (records_of i x) v vs × ((k : ℕ) → IsSectorOf (records_of i x) v k → flat (records_of i x) x v vs k ≡ list k)
+
+abbrev pub FlatListsAreRead : Type 0
+FlatListsAreRead =
+    (up : Hosts) (d o : Content) (p : Pool) (sd i v : Id) (r : DomainRecord) (m : Image) (w : Volume) (y : VolumeRecord) → Stands up d p
+    → IsClaimed p sd i r m → m.fault ≡ None → m.torn ≡ None → m.volume v ≡ Some w → w.says ≡ Ok y → y.legality ≡ Legal → IsOutcome d o
+    → ReadsThrough (image_in sd i r) (volumes_in o sd i) v w.flat
+
+-- ---- what changes elsewhere leave
+
+-- From d to e, and from p to q, nothing of the image has changed: not its folders, what the pool says of it, the sectors that
+-- name it, or the tasks that make or remove it; and who leads still does.
+pub record LeavesImage (d e : Content) (p q : Pool) (sd i : Id) : Type 0 where
+  pub image : q.image sd i ≡ p.image sd i
+  pub folder : e.dir (dir.Image sd i) ≡ d.dir (dir.Image sd i)
+  pub removed : e.dir (dir.Removed sd i) ≡ d.dir (dir.Removed sd i)
+  pub files : (n : Name) → folder_of (dir.Image sd i) e n ≡ folder_of (dir.Image sd i) d n
+  pub removed_files : (n : Name) → folder_of (dir.Removed sd i) e n ≡ folder_of (dir.Removed sd i) d n
+  pub named : (k : ℕ) (r : LeaseRecord) → NamesAt p sd i k r → NamesAt q sd i k r
+  pub was_named : (k : ℕ) (r : LeaseRecord) → NamesAt q sd i k r → NamesAt p sd i k r
+  pub making : IsMaking p sd i → IsMaking q sd i
+  pub was_making : IsMaking q sd i → IsMaking p sd i
+  pub leads : (h : ℕ) → Leads p h → Leads q h
+
+abbrev pub ImageFrame : Type 0
+ImageFrame =
+    (up : Hosts) (d e : Content) (p q : Pool) (sd i : Id) (version : ℕ) → LeavesImage d e p q sd i → ImageStands up d p sd version i
+    → ImageStands up e q sd version i
+
+-- ---- what owned changes leave
+
+abbrev pub GuestsKeepImages : Type 0
+GuestsKeepImages =
+    (up : Hosts) (d : Content) (p q : Pool) (h g : ℕ) (sd i : Id) (r : DomainRecord) → Stands up d p → OwnedImages h p q → p.domain sd ≡ Some r
+    → IsGuest p sd i g → g ≢ h → (q.image sd i ≡ p.image sd i) ⊎ AlsoLonger (p.image sd i) (q.image sd i)

@@ -1,0 +1,105 @@
+-- The counts that a verb's bound goes by are those of the disk, as its host sees it, in the moment in which the verb took its
+-- lease, or began where it takes none.
+use Rattle.std.specs.Prelude.{◌≡◌, ◌⊎◌, ℕ, List, [], ◌∷◌, length, Option, Some, None}
+use Rattle.std.specs.List.{sum}
+use Rattle.std.specs.Option.{option_map}
+use Rattle.sd_names.specs.declared.id.Id.{Id}
+use Rattle.sd_names.specs.declared.place.Dir.{Dir}
+use Rattle.sd_names.specs.declared.place.Dir.TheVariants as dir
+use Rattle.sd_names.specs.declared.place.Name.{Name}
+use Rattle.sd_names.specs.declared.place.Name.TheVariants as name
+use Rattle.shared_disk.specs.Content.{Content, File, seen}
+use Rattle.shared_disk.specs.NameCalls.{place_in}
+use Rattle.volume_meta.specs.declared.record.VolumeRecord.{VolumeRecord}
+use Rattle.domain_meta.specs.declared.record.DomainRecord.{DomainRecord}
+use Rattle.chain_model.specs.Chain.{path_of}
+use Rattle.chain_model.specs.Folder.{Volumes}
+use Rattle.chain_model.specs.Opening.{AreVolumes}
+use Rattle.chain_model.specs.Reading.{HasNoReading, IsReading}
+use Rattle.chain_model.specs.Records.{Image as ImageIn, Records, records_of}
+use Rattle.pool_model.specs.Pool.{Pool}
+use Rattle.pool_model.specs.Sizes.{AreFolders, AreNames, HasNames, HasTables, Sizes, clusters_of}
+use Rattle.pool_model.specs.Verb.{Verb}
+use Rattle.pool_model.specs.Verb as verb
+
+-- ---- an image as a host sees it
+
+abbrev pub seen_file : ℕ → File → File
+seen_file h f = record { size = f.size; stable = seen h f; loose = []; fresh = None }
+
+abbrev pub seen_volumes : ℕ → Content → Id → Id → Volumes
+seen_volumes h d sd i = record {
+  text = λ v. option_map (seen_file h) (d.file (place_in (dir.Image sd i) (name.Meta v)));
+  file = λ v. option_map (seen_file h) (d.file (place_in (dir.Image sd i) (name.Volume v)));
+}
+
+-- the sectors of one volume's tables, none where there is no record or no file
+abbrev pub TablesAt : Option VolumeRecord → Option File → ℕ → Type 0
+TablesAt (Some y) (Some f) n = HasTables y.format y f n
+TablesAt _ file n = n ≡ 0
+
+-- and of several, one after the other
+abbrev pub TablesOf : Records → Volumes → List Id → List ℕ → Type 0
+TablesOf r x [] ns = ns ≡ []
+TablesOf r x (v ∷ vs) [] = ⊥
+TablesOf r x (v ∷ vs) (n ∷ ns) = TablesAt (r v) (x.file v) n × TablesOf r x vs ns
+
+abbrev pub clusters_at : Option VolumeRecord → Option File → Option ℕ
+clusters_at (Some y) (Some f) = clusters_of y.format y f
+clusters_at _ file = None
+
+abbrev pub clusters_along : Records → Volumes → List Id → List (Option ℕ)
+clusters_along r x [] = []
+clusters_along r x (v ∷ vs) = clusters_at (r v) (x.file v) ∷ clusters_along r x vs
+
+-- the path of the reading volume, where there is one
+abbrev pub HasPath : Records → Volumes → List (Option ℕ) → Type 0
+HasPath r x path =
+    ((v : Id) × ((vs : List Id) × IsReading r v vs × (path ≡ clusters_along r x (path_of r v vs)))) ⊎ (HasNoReading r × (path ≡ []))
+
+pub record MeasuresImage (h : ℕ) (d : Content) (i : ImageIn) (s : Sizes) : Type 0 where
+  pub names : HasNames d i.domain i.id s.names
+  pub all : List Id
+  pub are : AreVolumes (seen_volumes h d i.domain i.id) all
+  pub volumes : s.volumes ≡ length all
+  pub each : List ℕ
+  pub tables_of : TablesOf (records_of i (seen_volumes h d i.domain i.id)) (seen_volumes h d i.domain i.id) all each
+  pub tables : s.tables ≡ sum each
+  pub path : HasPath (records_of i (seen_volumes h d i.domain i.id)) (seen_volumes h d i.domain i.id) s.path
+
+-- ---- the pool
+
+abbrev pub HasFoldersCount : Content → ℕ → Type 0
+HasFoldersCount d n = (qs : List Dir) × AreFolders d dir.Root qs × (n ≡ length qs)
+
+-- the names in the tasks folder of the master, none where there is no pool
+abbrev pub HasTaskNames : Content → Option Id → ℕ → Type 0
+HasTaskNames d None n = n ≡ 0
+HasTaskNames d (Some m) n = (ns : List Name) × AreNames d (dir.Tasks m) ns × (n ≡ length ns)
+
+abbrev pub HasDomains : Pool → Option Id → ℕ → Type 0
+HasDomains p None n = n ≡ 0
+HasDomains p (Some m) n = (r : DomainRecord) × (p.domain m ≡ Some r) × (n ≡ length r.domains)
+
+pub record MeasuresPool (d : Content) (p : Pool) (s : Sizes) : Type 0 where
+  pub tasks : HasTaskNames d p.master s.tasks
+  pub domains : HasDomains p p.master s.domains
+
+-- what each verb counts
+abbrev pub Measured : ℕ → Verb → Content → Pool → Sizes → Type 0
+Measured h (verb.make_pool pool sd version text) d p s = HasFoldersCount d s.folders
+Measured h (verb.spm_start sd prev lver) d p s = MeasuresPool d p s
+Measured h verb.spm_stop d p s = MeasuresPool d p s
+Measured h (verb.create t sd i v format kind capacity text) d p s = Unit {0}
+Measured h (verb.delete_image t sd i) d p s = HasNames d sd i s.names
+Measured h (verb.open_image sd i) d p s =
+    (r : DomainRecord) × (p.domain sd ≡ Some r) × MeasuresImage h d (record { domain = sd; id = i; version = r.version }) s
+Measured h (verb.close_image sd i) d p s = HasNames d sd i s.names
+Measured h (verb.read sd i at count) d p s =
+    (r : DomainRecord) × (p.domain sd ≡ Some r) × MeasuresImage h d (record { domain = sd; id = i; version = r.version }) s
+Measured h (verb.write sd i at bytes) d p s =
+    (r : DomainRecord) × (p.domain sd ≡ Some r) × MeasuresImage h d (record { domain = sd; id = i; version = r.version }) s
+Measured h verb.tasks d p s = MeasuresPool d p s
+Measured h (verb.clear_task t) d p s = MeasuresPool d p s
+Measured h verb.recover d p s = MeasuresPool d p s
+Measured h _ d p s = ⊥

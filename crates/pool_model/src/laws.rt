@@ -1,0 +1,41 @@
+// Laws of disks that stand for a pool.
+ghost use Rattle.pool_model.specs.Laws.{EmptyStands, FlatListsAreRead, GuestsKeepImages, ImageFrame, NobodySettles};
+ghost use Rattle.pool_model.specs.Laws.{NobodyTears, StandingIsCovered, StandingKeeps};
+
+/// A law: a disk that holds nothing stands for the pool that isn't made yet, whichever hosts are up.
+pub fn empty_disks_stand()
+    ensures { EmptyStands }
+{}
+
+/// A law: a disk that stands for a pool has no stray folder or file, and no unsynced write but of hosts that are up,
+/// in the files of an image but of those that hold it.
+pub fn standing_disks_are_kept()
+    ensures covered { StandingIsCovered }
+    ensures keeps { StandingKeeps }
+{}
+
+/// A law: where a disk stands for a pool and no host is up, nothing on it is unsynced, and no write is mixed into an
+/// image.
+pub fn nothing_is_unsynced_without_hosts()
+    ensures settled { NobodySettles }
+    ensures untorn { NobodyTears }
+{}
+
+/// A law: where a disk stands for a pool, the flat list of each LEGAL volume of an image is what each outcome's files
+/// read as through their chain, sector by sector, unless a write is mixed in, the image can't be opened, or an open
+/// task makes or removes it.
+pub fn flat_lists_are_read_through_chains()
+    ensures { FlatListsAreRead }
+{}
+
+/// A law: a step that leaves an image's folders, its sector, its tasks and what the pool says of it alone leaves what
+/// the disk has to say of the image.
+pub fn images_stand_alone()
+    ensures { ImageFrame }
+{}
+
+/// A law: a step of a host, all of whose changes of images are owned, leaves an image of which another host is the
+/// guest as it was, but for a file that the manager made longer.
+pub fn guests_keep_their_images()
+    ensures { GuestsKeepImages }
+{}

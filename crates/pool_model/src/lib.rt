@@ -1,0 +1,10 @@
+//! The pool that the hosts' disk stands for, and the machine that says what hosts may do to it: definitions, and their
+//! laws as functions without code.
+#![tactic(auto)]
+
+mod laws;
+
+pub use laws::{
+    empty_disks_stand, flat_lists_are_read_through_chains, guests_keep_their_images,
+    images_stand_alone, nothing_is_unsynced_without_hosts, standing_disks_are_kept,
+};
