@@ -1,4 +1,4 @@
 pub mod Lives
-mod Calls
+pub mod Calls
 mod Found
 mod Steps

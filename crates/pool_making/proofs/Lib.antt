@@ -1,0 +1,9 @@
+mod Apart
+mod Parts
+mod Listed
+mod Turns
+mod StageSteps
+mod StageFalls
+mod Texts
+mod NewText
+mod Others

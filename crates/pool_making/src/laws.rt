@@ -1,0 +1,40 @@
+// Laws of making a pool: contracts of functions that do nothing.
+ghost use Rattle.std.specs.Prelude.{◌≡◌, ℕ, ◌<◌, ◌≤◌, ◌^◌, List, length, replicate, Ok};
+ghost use Rattle.kv_text.specs.Text.{IsOneLine};
+ghost use Rattle.sd_names.specs.Id.{IsIdBytes};
+ghost use Rattle.sd_names.specs.declared.id.Id.{Id};
+ghost use Rattle.sd_names.specs.declared.place.Dir.{Dir};
+ghost use Rattle.sd_names.specs.declared.place.Place.{Place};
+ghost use Rattle.shared_disk.specs.Content.{Content};
+ghost use Rattle.shared_disk.specs.Crash.{IsOutcome};
+ghost use Rattle.domain_meta.specs.Read.{read_domain};
+ghost use Rattle.domain_meta.specs.Text.{domain_text};
+ghost use Rattle.lease_area.specs.Hold.{Stands};
+ghost use Rattle.pool_making.specs.Layout.{IsOwn, metadata_of};
+ghost use Rattle.pool_making.specs.Making.{domain_of};
+ghost use Rattle.pool_making.specs.Pool.{IsDomain, IsNoneOrWhole, IsNoneOrWholeOnEach};
+ghost use Rattle.pool_making.specs.Steps.{Knows};
+ghost use Rattle.pool_making.specs.Writing.{only_master};
+ghost use Rattle.pool_making.specs.declared.making.MakePool.{MakePool};
+
+/// A domain that was made whole is whole on each outcome, and one that doesn't count counts on none.
+pub fn a_made_domain_survives_crashes()
+    ensures whole { (sd : Id) (text : List ℕ) (d o : Content) → IsDomain sd text d → IsOutcome d o → IsDomain sd text o }
+    ensures either { (sd : Id) (text : List ℕ) (d : Content) → IsNoneOrWhole sd text d → IsNoneOrWholeOnEach sd text d }
+{}
+
+/// The text of a new master reads as its record.
+pub fn a_new_text_reads_back()
+    ensures { (pool sd : Id) (version : ℕ) (text : List ℕ) → IsIdBytes pool.0 → IsIdBytes sd.0 → version < 2 ^ 64 → length text ≤ 4096 → IsOneLine text → read_domain sd (domain_text (only_master pool sd version text)) ≡ Ok (only_master pool sd version text) }
+{}
+
+/// Each lease sector of a new domain is empty, on the medium: nobody is the manager of its pool, and it has no images.
+pub fn a_new_domain_has_no_leases()
+    ensures { (sd : Id) (text : List ℕ) (d : Content) (slot : ℕ) → slot < 1024 → IsDomain sd text d → Stands d sd slot (replicate 512 0) }
+{}
+
+/// What a making knows stays true under each change that leaves the folders, the texts of domains and the new
+/// domain's own files alone.
+pub fn make_knowledge_survives_others()
+    ensures { (m : MakePool) (host : ℕ) (d e : Content) → ((q : Dir) → e.dir q ≡ d.dir q) → ((q : Id) → e.file (metadata_of q) ≡ d.file (metadata_of q)) → ((q : Place) → IsOwn (domain_of m) q → e.file q ≡ d.file q) → Knows m host d → Knows m host e }
+{}

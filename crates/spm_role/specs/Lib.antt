@@ -1,0 +1,5 @@
+pub mod Spm
+pub mod Master
+pub mod Look
+pub mod Asked
+pub mod Start

@@ -1,0 +1,14 @@
+//! The role of a pool's manager (the SPM): taking it by one exchange, and giving it up.
+#![tactic(auto)]
+
+mod lists;
+mod looking;
+mod master;
+mod spm;
+mod start;
+mod stop;
+
+pub use lists::{DomainList, TaskList};
+pub use spm::Spm;
+pub use start::{SpmStart, Stage};
+pub use stop::spm_stop;

@@ -1,0 +1,103 @@
+// The lists that a manager keeps, in room that was taken when it began.
+ghost use Rattle.std.specs.Prelude.{◌≡◌, ◌≤◌, [], length, IfOk};
+
+use sd_names::{Id, NoMemory, TaskState};
+use std::alloc::Global;
+use std::marker::Model;
+
+/// How many domains a pool has at the most.
+const DOMAINS: usize = 4;
+
+/// How many tasks a pool keeps at the most.
+const TASKS: usize = 128;
+
+/// The domains of a pool, at most 4, in room for 4. A contract sees the list.
+#[derive(Debug, Drop)]
+pub struct DomainList {
+    ids: Vec<Id>,
+}
+
+impl Model for DomainList {
+    ghost use Rattle.std.specs.Prelude.{◌≤◌, List, length, vec_capacity};
+    ghost use Rattle.sd_names.specs.declared.id.Id.{Id};
+
+    ghost Value = { List Id };
+
+    ghost view = { λ s. s.ids.items };
+
+    ghost invariant = { λ s. 4 ≤ vec_capacity s.ids };
+}
+
+impl DomainList {
+    /// No domains, and room for 4.
+    pub fn with_room(alloc: Global) -> Result<DomainList, NoMemory>
+        ensures { IfOk result (λ list. list ≡ []) }
+    {
+        match Vec::with_capacity(alloc, DOMAINS) {
+            Ok(ids) => Ok(DomainList { ids }),
+            Err(_) => Err(NoMemory),
+        }
+    }
+
+    /// Puts these domains, at most 4, in place of those that are there. It takes no memory.
+    pub fn fill(&mut self, ids: &[Id])
+        requires few { length ids.now ≤ 4 }
+        ensures { self.new ≡ ids.now }
+    {
+        self.ids.clear();
+        self.ids.extend_from_slice(ids).unwrap()
+    }
+
+    /// The domains, lent.
+    pub fn as_slice(&self) -> &[Id]
+        ensures { result.now ≡ self.now }
+    {
+        &self.ids
+    }
+}
+
+/// The tasks of a pool with their states, at most 128, in room for 128. A contract sees a list of pairs.
+#[derive(Debug, Drop)]
+pub struct TaskList {
+    tasks: Vec<(Id, TaskState)>,
+}
+
+impl Model for TaskList {
+    ghost use Rattle.std.specs.Prelude.{◌≤◌, List, length, vec_capacity};
+    ghost use Rattle.sd_names.specs.declared.id.Id.{Id};
+    ghost use Rattle.sd_names.specs.declared.task_state.TaskState.{TaskState};
+
+    ghost Value = { List (Id × TaskState) };
+
+    ghost view = { λ s. s.tasks.items };
+
+    ghost invariant = { λ s. 128 ≤ vec_capacity s.tasks };
+}
+
+impl TaskList {
+    /// No tasks, and room for 128.
+    pub fn with_room(alloc: Global) -> Result<TaskList, NoMemory>
+        ensures { IfOk result (λ list. list ≡ []) }
+    {
+        match Vec::with_capacity(alloc, TASKS) {
+            Ok(tasks) => Ok(TaskList { tasks }),
+            Err(_) => Err(NoMemory),
+        }
+    }
+
+    /// Puts these tasks, at most 128, in place of those that are there. It takes no memory.
+    pub fn fill(&mut self, tasks: &[(Id, TaskState)])
+        requires few { length tasks.now ≤ 128 }
+        ensures { self.new ≡ tasks.now }
+    {
+        self.tasks.clear();
+        self.tasks.extend_from_slice(tasks).unwrap()
+    }
+
+    /// The tasks, lent.
+    pub fn as_slice(&self) -> &[(Id, TaskState)]
+        ensures { result.now ≡ self.now }
+    {
+        &self.tasks
+    }
+}

@@ -1,0 +1,103 @@
+// Reading sector 0 of the leases file, before it is taken.
+ghost use Rattle.std.specs.Prelude.{◌≡◌, ◌≤◌, ℕ, IfErr, IfOk};
+ghost use Rattle.shared_disk.specs.Calls.{Told};
+ghost use Rattle.shared_disk.specs.Refusal.{IsRisen};
+ghost use Rattle.shared_disk.specs.Step.{ResultCounts};
+ghost use Rattle.lease_area.specs.Hold.{IsRoleRefusal};
+ghost use Rattle.lease_area.specs.Move.{is_open, owner_of, version_of};
+ghost use Rattle.spm_role.specs.Look.{Looks, look_answer, sector_read};
+
+use lease_area::Sector;
+use sd_names::{Dir, HostId, Id, Name, Place, Refusal, UpSet};
+use shared_disk::{SharedDisk, refusal_for};
+
+// Whether a host may take over from an owner: from nobody, itself, or a host that isn't up.
+fn is_open(up: &UpSet, host: HostId, owner: u8) -> bool
+    requires { owner ≤ 250 }
+    ensures { result ≡ is_open up.now host owner }
+{
+    match HostId::new(u64::from(owner)) {
+        Some(other) => other.get() == host.get() || !up.has(other),
+        None => true,
+    }
+}
+
+// The owner and the version of a sector; 0 and 0 where it is empty.
+fn named_in(sector: &Sector) -> (u8, u64)
+    ensures owner { result.0 ≡ owner_of sector.now }
+    ensures fits { result.0 ≤ 250 }
+    ensures version { result.1 ≡ version_of sector.now }
+{
+    match sector {
+        Sector::Lease(record) => (record.owner, record.version),
+        Sector::Empty => (0, 0),
+    }
+}
+
+// The sector that was read, where a whole one was.
+fn sector_read(count: usize, bytes: &[u8; 512]) -> Option<Sector>
+    ensures { result ≡ sector_read count bytes.now }
+{
+    if count == 512 {
+        Sector::read(bytes)
+    } else {
+        None
+    }
+}
+
+// The sector, where it may be taken from this owner at this version; else why it may not.
+fn asked_in(
+    up: &UpSet,
+    host: HostId,
+    prev: u8,
+    lver: u64,
+    found: Option<Sector>,
+) -> Result<Sector, Refusal>
+    ensures exact { result ≡ look_answer up.now host prev lver found }
+    ensures as_asked { IfOk result (λ sector. (owner_of sector ≡ prev) × (version_of sector ≡ lver)) }
+    ensures refusals { IfErr result IsRoleRefusal }
+    ensures no_fault { IfErr result (λ refusal. (before after : ℕ) → after ≡ before → IsRisen before after refusal) }
+{
+    let sector = match found {
+        Some(sector) => sector,
+        None => return Err(Refusal::LeaseCorrupt(0)),
+    };
+    let (owner, version) = named_in(&sector);
+    if !is_open(up, host, owner) {
+        return Err(Refusal::SpmHeld(owner, version));
+    }
+    if owner != prev {
+        return Err(Refusal::PrevMismatch(prev, owner));
+    }
+    if version != lver {
+        return Err(Refusal::LverMismatch(lver, version));
+    }
+    Ok(sector)
+}
+
+/// Reads sector 0: the sector, where it may be taken from this owner at this version. One call of the disk. 58 where
+/// no sector stands there, 41 where another host that is up has it, 43 where its owner isn't `prev`, 42 where its
+/// version isn't `lver`, as the sector is in this moment.
+pub(crate) fn look<D: SharedDisk>(
+    host: HostId,
+    up: &UpSet,
+    disk: &mut D,
+    sd: Id,
+    prev: u8,
+    lver: u64,
+) -> Result<Sector, Refusal>
+    ensures counts { ResultCounts (D.faults disk.old) (D.faults disk.new) (D.calls disk.old) (D.calls disk.new) result }
+    ensures refusals { IfErr result IsRoleRefusal }
+    ensures as_asked { IfOk result (λ sector. (owner_of sector ≡ prev) × (version_of sector ≡ lver)) }
+    ensures content { Told (D.content disk.old) (D.content disk.new) (Looks host up.now sd prev lver (D.faults disk.new) result) }
+{
+    let place = Place {
+        dir: Dir::DomMd(sd),
+        name: Name::Leases,
+    };
+    let mut bytes = [0; 512];
+    match disk.read_at(host, place, 0, &mut bytes) {
+        Ok(count) => asked_in(up, host, prev, lver, sector_read(count, &bytes)),
+        Err(answer) => Err(refusal_for(answer, disk)),
+    }
+}
