@@ -59,4 +59,5 @@ empty_stands up d history empty = record {
   image = λ sd r e. absurd (none_not_some ((no_pool history).domain sd) r refl e);
   unasked = λ sd r e. absurd (none_not_some ((no_pool history).domain sd) r refl e);
   alive = λ q f there. absurd (none_not_some (d.file q) f (empty.files q) there);
+  layout = λ q f there. absurd (none_not_some (d.file q) f (empty.files q) there);
 }

@@ -54,7 +54,7 @@ flats_are i x m whole untorn v = go (is_one v whole.reading)
         subst (λ (u : Id). whole.flats u ≡ flats_in m u) (sym e) (untorn_flat m.torn (flats_in m whole.reading) (whole.flats whole.reading) untorn whole.here)
     go (inr other) = whole.others v other
 
-volume_reads : (i : ImageIn) (x : Volumes) (m : Image) (v : Id) (w : Volume) (y : VolumeRecord) → IsImage i x m → m.fault ≡ None → m.torn ≡ None
+pub volume_reads : (i : ImageIn) (x : Volumes) (m : Image) (v : Id) (w : Volume) (y : VolumeRecord) → IsImage i x m → m.fault ≡ None → m.torn ≡ None
     → m.volume v ≡ Some w → w.says ≡ Ok y → y.legality ≡ Legal → ReadsThrough i x v w.flat
 volume_reads i x m v w y is sound untorn has says legal =
     let whole = subst (λ (o : Option Refusal). OpensAs i x m o) sound is.opens in

@@ -7,7 +7,7 @@ use Rattle.sd_names.specs.declared.task_state.TaskState.{TaskState}
 use Rattle.domain_meta.specs.declared.record.DomainRecord.{DomainRecord}
 use Rattle.task_store.specs.declared.task.Task.{Task}
 use Rattle.chain_model.specs.Opening.{id_cmp}
-use Rattle.pool_model.specs.Leases.{IsGuest}
+use Rattle.pool_model.specs.Leases.{IsGuest, IsTasked}
 use Rattle.pool_model.specs.Marks.{change, make_master}
 use Rattle.pool_model.specs.Pool.{Image, Pool, Torn}
 use Rattle.pool_model.specs.Role.{Manager, Role, leads, outside}
@@ -19,11 +19,13 @@ use Rattle.pool_model.specs.Verb as verb
 
 -- ---- the role
 
--- Sector 0 of the master names the host, with the version that it keeps. No task is open but the one that it has begun.
+-- Sector 0 of the master names the host, with the version that it keeps. No task is open but the one that it has begun, and
+-- without one no image is held for a task.
 pub record KnowsManager (h : ℕ) (m : Manager) (p : Pool) : Type 0 where
   pub master : p.master ≡ Some m.master
   pub held : IsHeldAt (p.sector m.master 0) h m.version
   pub none_open : m.begun ≡ None → NoneOpen p
+  pub none_held : m.begun ≡ None → (sd i : Id) → IsTasked p sd i → ⊥
   pub one_open : (t u : Id) (x : Task) → m.begun ≡ Some t → IsOpen p u x → u ≡ t
 
 abbrev pub KnowsRole : ℕ → Role → Pool → Type 0

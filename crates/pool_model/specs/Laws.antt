@@ -18,6 +18,7 @@ use Rattle.pool_model.specs.Covered.{Covered, Keeps}
 use Rattle.pool_model.specs.Leases.{IsGuest, IsNamed, Leads, NamesAt}
 use Rattle.pool_model.specs.Owned.{AlsoLonger, OwnedImages}
 use Rattle.pool_model.specs.Pool.{History, Image, Pool, Volume, no_pool}
+use Rattle.pool_model.specs.Same.{SamePool}
 use Rattle.pool_model.specs.Standing.{ImageStands, Stands}
 use Rattle.pool_model.specs.Tasks.{IsMaking}
 
@@ -49,6 +50,11 @@ pub record IsClaimed (p : Pool) (sd i : Id) (r : DomainRecord) (m : Image) : Typ
 
 abbrev pub NobodyTears : Type 0
 NobodyTears = (up : Hosts) (d : Content) (p : Pool) (sd i : Id) (r : DomainRecord) (m : Image) → Nobody up → Stands up d p → IsClaimed p sd i r m → m.torn ≡ None
+
+-- ---- one disk, one pool
+
+abbrev pub OnePool : Type 0
+OnePool = (up : Hosts) (d : Content) (p q : Pool) → Nobody up → Stands up d p → Stands up d q → SamePool p q
 
 -- ---- what the flat lists mean
 

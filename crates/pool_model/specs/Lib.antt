@@ -23,4 +23,5 @@ pub mod Settled
 pub mod Most
 pub mod Measured
 pub mod Dump
+pub mod Same
 pub mod Laws

@@ -1,7 +1,7 @@
 -- The counts that a verb's bound goes by are those of the disk, as its host sees it, in the moment in which the verb took its
 -- lease, or began where it takes none.
-use Rattle.std.specs.Prelude.{◌≡◌, ◌⊎◌, ℕ, List, [], ◌∷◌, length, Option, Some, None}
-use Rattle.std.specs.List.{sum}
+use Rattle.std.specs.Prelude.{◌≡◌, ◌⊎◌, ℕ, ◌||◌, Bool, true, false, List, [], ◌∷◌, length, Option, Some, None}
+use Rattle.std.specs.List.{list_any, sum}
 use Rattle.std.specs.Option.{option_map}
 use Rattle.sd_names.specs.declared.id.Id.{Id}
 use Rattle.sd_names.specs.declared.place.Dir.{Dir}
@@ -17,8 +17,11 @@ use Rattle.chain_model.specs.Folder.{Volumes}
 use Rattle.chain_model.specs.Opening.{AreVolumes}
 use Rattle.chain_model.specs.Reading.{HasNoReading, IsReading}
 use Rattle.chain_model.specs.Records.{Image as ImageIn, Records, records_of}
+use Rattle.pool_model.specs.Marks.{Mark, change, lead}
 use Rattle.pool_model.specs.Pool.{Pool}
 use Rattle.pool_model.specs.Sizes.{AreFolders, AreNames, HasNames, HasTables, Sizes, clusters_of}
+use Rattle.pool_model.specs.State.{Running}
+use Rattle.pool_model.specs.Turns.{is_take}
 use Rattle.pool_model.specs.Verb.{Verb}
 use Rattle.pool_model.specs.Verb as verb
 
@@ -103,3 +106,29 @@ Measured h verb.tasks d p s = MeasuresPool d p s
 Measured h (verb.clear_task t) d p s = MeasuresPool d p s
 Measured h verb.recover d p s = MeasuresPool d p s
 Measured h _ d p s = ⊥
+
+-- ---- when it is counted
+
+-- the verb takes its lease, or the role, where these marks were left before and those after
+abbrev pub is_lead : Mark → Bool
+is_lead (change (lead sd prev lver)) = true
+is_lead _ = false
+
+abbrev pub awaits_lease : List Mark → Bool
+awaits_lease ns = list_any is_take ns || list_any is_lead ns
+
+-- At a begin, where the verb waits for no lease; and in the step in which it takes the lease, on the disk after it.
+abbrev pub MeasuredAtBegin : Bool → ℕ → Verb → Content → Pool → Sizes → Type 0
+MeasuredAtBegin true h v d p s = Unit {0}
+MeasuredAtBegin false h v d p s = Measured h v d p s
+
+abbrev pub MeasuredInStep : Bool → Bool → ℕ → Verb → Content → Pool → Sizes → Sizes → Type 0
+MeasuredInStep true false h v d p before after = Measured h v d p after
+MeasuredInStep _ _ h v d p before after = after ≡ before
+
+abbrev pub BeginsMeasured : ℕ → Running → Content → Pool → Type 0
+BeginsMeasured h run d p = MeasuredAtBegin (awaits_lease run.marks) h run.verb d p run.kept.sizes
+
+abbrev pub StepsMeasured : ℕ → Running → Running → Content → Pool → Type 0
+StepsMeasured h run next d p =
+    MeasuredInStep (awaits_lease run.marks) (awaits_lease next.marks) h run.verb d p run.kept.sizes next.kept.sizes

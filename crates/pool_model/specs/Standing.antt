@@ -16,6 +16,7 @@ use Rattle.sd_names.specs.declared.task_state.TaskState.{TaskState}
 use Rattle.shared_disk.specs.Content.{Content, File, Loose, zero_sector}
 use Rattle.shared_disk.specs.Crash.{IsOutcomeSector, IsSettled}
 use Rattle.shared_disk.specs.NameCalls.{place_in}
+use Rattle.folder_layout.specs.Layout.{HoldsName}
 use Rattle.whole_file.specs.Text.{longest}
 use Rattle.mail_box.specs.Spelling.{message_of}
 use Rattle.mail_box.specs.declared.message.Message.{Message}
@@ -210,7 +211,7 @@ pub record TasksStand (d : Content) (p : Pool) : Type 0 where
   pub are : AreTasks p listed
   pub few : length listed ≤ 128
   pub one : (t u : Id) (x y : Task) → IsOpen p t x → IsOpen p u y → t ≡ u
-  pub built : (t : Id) (x : Task) → IsOpen p t x → IsBuiltOpen t x.verb x.steps
+  pub built : (t : Id) (x : Task) → IsOpen p t x → IsBuiltOpen x.verb x.steps
   pub inside : (sd i : Id) → IsMaking p sd i → (r : DomainRecord) × (p.domain sd ≡ Some r)
 
 -- ---- images of a listed domain
@@ -276,3 +277,5 @@ pub record Stands (up : Hosts) (d : Content) (p : Pool) : Type 0 where
   pub image : (sd : Id) (r : DomainRecord) → p.domain sd ≡ Some r → (i : Id) → ImageStands up d p sd r.version i
   pub unasked : (sd : Id) (r : DomainRecord) → p.domain sd ≡ Some r → (i : Id) → IsUnasked p sd i
   pub alive : (q : Place) (f : File) → d.file q ≡ Some f → IsAlive up f
+  -- files stand only where the layout has them, so that a folder is empty once its listed names are gone
+  pub layout : (q : Place) (f : File) → d.file q ≡ Some f → HoldsName q.dir q.name

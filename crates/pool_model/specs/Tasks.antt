@@ -42,15 +42,15 @@ abbrev pub ended_task : TaskState → Task → Task
 ended_task to x = record { id = x.id; verb = x.verb; state = to; steps = [] }
 
 -- Open tasks of the verbs that are built. Of the others there is none: no pool with one is stood for until its verb is built.
-abbrev pub IsBuiltOpen : Id → VerbName → List Undo → Type 0
-IsBuiltOpen t word.Create steps = (sd : Id) × ((i : Id) × (steps ≡ undo.RemoveImage sd i ∷ []))
-IsBuiltOpen t word.DeleteImage steps = (sd : Id) × ((i : Id) × (steps ≡ undo.FinishRemove sd i ∷ []))
-IsBuiltOpen t word.Snapshot steps = ⊥
-IsBuiltOpen t word.DeleteVolume steps = ⊥
-IsBuiltOpen t word.Copy steps = ⊥
-IsBuiltOpen t word.Extend steps = ⊥
-IsBuiltOpen t word.Describe steps = ⊥
-IsBuiltOpen t word.AddDomain steps = ⊥
+abbrev pub IsBuiltOpen : VerbName → List Undo → Type 0
+IsBuiltOpen word.Create steps = (sd : Id) × ((i : Id) × (steps ≡ undo.RemoveImage sd i ∷ []))
+IsBuiltOpen word.DeleteImage steps = (sd : Id) × ((i : Id) × (steps ≡ undo.FinishRemove sd i ∷ []))
+IsBuiltOpen word.Snapshot steps = ⊥
+IsBuiltOpen word.DeleteVolume steps = ⊥
+IsBuiltOpen word.Copy steps = ⊥
+IsBuiltOpen word.Extend steps = ⊥
+IsBuiltOpen word.Describe steps = ⊥
+IsBuiltOpen word.AddDomain steps = ⊥
 
 -- exactly the tasks of a pool, in order of their identifiers
 pub record AreTasks (p : Pool) (ts : List (Id × TaskState)) : Type 0 where

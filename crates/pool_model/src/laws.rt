@@ -1,5 +1,5 @@
 // Laws of disks that stand for a pool.
-ghost use Rattle.pool_model.specs.Laws.{EmptyStands, FlatListsAreRead, GuestsKeepImages, ImageFrame, NobodySettles};
+ghost use Rattle.pool_model.specs.Laws.{EmptyStands, FlatListsAreRead, GuestsKeepImages, ImageFrame, NobodySettles, OnePool};
 ghost use Rattle.pool_model.specs.Laws.{NobodyTears, StandingIsCovered, StandingKeeps};
 
 /// A law: a disk that holds nothing stands for the pool that isn't made yet, whichever hosts are up.
@@ -19,6 +19,12 @@ pub fn standing_disks_are_kept()
 pub fn nothing_is_unsynced_without_hosts()
     ensures settled { NobodySettles }
     ensures untorn { NobodyTears }
+{}
+
+/// A law: with no host up, two pools that one disk stands for are one, but for what has happened, flat lists of ILLEGAL
+/// volumes and past capacities, and images that an open task makes or removes.
+pub fn disks_stand_for_one_pool()
+    ensures { OnePool }
 {}
 
 /// A law: where a disk stands for a pool, the flat list of each LEGAL volume of an image is what each outcome's files
