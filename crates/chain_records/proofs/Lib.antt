@@ -1,5 +1,6 @@
 pub mod Again
 pub mod Capacities
+pub mod Changed
 pub mod Firsts
 pub mod Finding
 pub mod Lists
@@ -8,5 +9,6 @@ pub mod Partly
 pub mod Readers
 pub mod Settled
 pub mod Short
+pub mod Stepwise
 pub mod Ups
 pub mod Walks

@@ -22,7 +22,7 @@ pub record_among : (xs : List Volume) (v : Id) (x : VolumeRecord) → records_in
 record_among [] v x e = absurd cc
 record_among (y ∷ ys) v x e = go (id_is y.id v) refl e (record_among ys v x)
   where
-    go : (b : Bool) → id_is y.id v ≡ b → (if b then Some y.record else records_in ys v) ≡ Some x → (records_in ys v ≡ Some x → Contains (ids_of ys) v)
+    go : (b : Bool) → id_is y.id v ≡ b → (if b then Some y.meta else records_in ys v) ≡ Some x → (records_in ys v ≡ Some x → Contains (ids_of ys) v)
         → Contains (ids_of (y ∷ ys)) v
     go true t e more = subst (λ (z : Id). Contains (ids_of (y ∷ ys)) z) (id_is-same y.id v t) (contains_here y.id (ids_of ys))
     go false t e more = contains_more y.id v (ids_of ys) (more e)
@@ -33,8 +33,8 @@ some_record [] v h = absurd (nothing_in v h)
 some_record (y ∷ ys) v h = go (id_is y.id v) refl (cons_cases y.id v (ids_of ys) h) (some_record ys v)
   where
     go : (b : Bool) → id_is y.id v ≡ b → (y.id ≡ v) ⊎ Contains (ids_of ys) v → (Contains (ids_of ys) v → (x : VolumeRecord) × (records_in ys v ≡ Some x))
-        → (x : VolumeRecord) × ((if b then Some y.record else records_in ys v) ≡ Some x)
-    go true t h more = (y.record, refl)
+        → (x : VolumeRecord) × ((if b then Some y.meta else records_in ys v) ≡ Some x)
+    go true t h more = (y.meta, refl)
     go false t (inl e) more = absurd (false≢true (sym t ∙ subst (λ (z : Id). id_is y.id z ≡ true) e (id_is-itself y.id)))
     go false t (inr g) more = more g
 
@@ -43,20 +43,20 @@ length_ids [] = refl
 length_ids (x ∷ xs) = omega (arith, length_ids xs)
 
 -- no record of a volume is another one's
-pub record_step : (x : Volume) (v : Id) (o : Option VolumeRecord) → (x.id ≡ v → ⊥) → (if id_is x.id v then Some x.record else o) ≡ o
+pub record_step : (x : Volume) (v : Id) (o : Option VolumeRecord) → (x.id ≡ v → ⊥) → (if id_is x.id v then Some x.meta else o) ≡ o
 record_step x v o other = go (id_is x.id v) refl
   where
-    go : (b : Bool) → id_is x.id v ≡ b → (if b then Some x.record else o) ≡ o
+    go : (b : Bool) → id_is x.id v ≡ b → (if b then Some x.meta else o) ≡ o
     go true t = absurd (other (id_is-same x.id v t))
     go false t = refl
 
-pub record_found : (x : Volume) (v : Id) (o : Option VolumeRecord) → x.id ≡ v → (if id_is x.id v then Some x.record else o) ≡ Some x.record
+pub record_found : (x : Volume) (v : Id) (o : Option VolumeRecord) → x.id ≡ v → (if id_is x.id v then Some x.meta else o) ≡ Some x.meta
 record_found x v o e = let is : id_is x.id v ≡ true = subst (λ (z : Id). id_is x.id z ≡ true) e (id_is-itself x.id) in rw is refl
 
 -- ---- looking for a volume, from the front of the list on
 
 pub look_found : (xs : List Volume) (i : ℕ) (x : Volume) (v : Id) → i < length xs → x ≡ get_or xs i x → records_in (drop i xs) v ≡ records_in xs v
-    → x.id ≡ v → Some x.record ≡ records_in xs v
+    → x.id ≡ v → Some x.meta ≡ records_in xs v
 look_found xs i x v lt is same e =
     sym (sym same ∙ ap (λ (ys : List Volume). records_in ys v) (rest_is xs i x lt is) ∙ record_found x v (records_in (drop (i + 1) xs) v) e)
 

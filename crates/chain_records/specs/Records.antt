@@ -11,7 +11,7 @@ ids_of xs = map (λ x. x.id) xs
 -- the record of each volume of a list
 abbrev pub records_in : List Volume → Records
 records_in [] v = None
-records_in (x ∷ xs) v = if id_is x.id v then Some x.record else records_in xs v
+records_in (x ∷ xs) v = if id_is x.id v then Some x.meta else records_in xs v
 
 -- the first volume of a list whose file isn't there
 abbrev pub first_missing : List Volume → Option Id

@@ -2,6 +2,7 @@
 ghost use Rattle.std.specs.Prelude.{◌≡◌, ℕ, ◌≤◌, List, Contains, None, Some, length, unwrap_or};
 ghost use Rattle.sd_names.specs.Id.{zero_id};
 ghost use Rattle.sd_names.specs.declared.id.Id.{Id};
+ghost use Rattle.sd_names.specs.declared.kinds.VolType.{VolType};
 ghost use Rattle.sd_names.specs.declared.refusal.Refusal.{Refusal};
 ghost use Rattle.sd_names.specs.declared.refusal.Refusal.TheVariants.{NoVolume};
 ghost use Rattle.volume_meta.specs.declared.record.VolumeRecord.{VolumeRecord};
@@ -17,7 +18,8 @@ ghost use Rattle.chain_model.specs.Up.{up_of};
 ghost use Rattle.chain_records.specs.Checks.{FirstIs, record_checks};
 ghost use Rattle.chain_records.specs.Records.{first_missing, ids_of, records_in};
 ghost use Rattle.chain_records.specs.Paths.{HasChain};
-ghost use Rattle.chain_records.specs.Settling.{ArePartlyRewritten, AreRewritten, HasPassedParent, IsOver, NameUps};
+ghost use Rattle.chain_records.specs.Settling.{ArePartlyRewritten, AreRewritten, HasPassedParent, IsOver, IsRewritten, NameUps};
+ghost use Rattle.chain_records.specs.Rewriting.{changed, naming, typed};
 ghost use Rattle.chain_records.specs.Shown.{AreRead, IsShown};
 ghost use Rattle.chain_records.specs.declared.volume.Volume.{Volume};
 
@@ -97,4 +99,16 @@ pub fn settling_reads_alike()
         → ((v : Id) → HasChain r v) → IsFlat r flats y → IsFlat s flats y }
     ensures passes { (xs : List Volume) (s : Records) → ArePartlyRewritten (records_in xs) s
         → FirstIs (records_in xs) (record_checks (ids_of xs)) None → FirstIs s (record_checks (ids_of xs)) None }
+{}
+
+/// A law: settling goes volume by volume. A parent that is rewritten to the one that counts leaves records that are partly
+/// rewritten; once each volume whose parent is passed over is, all are; and a VOLTYPE that is rewritten then keeps that.
+pub fn settling_goes_by_volumes()
+    ensures parent { (r s : Records) (v up : Id) → ArePartlyRewritten r s
+        → ((vs : List Id) → IsBelow r v vs → up ≡ unwrap_or (up_of r vs) zero_id)
+        → ArePartlyRewritten r (changed v (naming up) s) }
+    ensures done { (r s : Records) → ArePartlyRewritten r s
+        → ((v : Id) → HasPassedParent r v → IsRewritten r v (r v) (s v)) → AreRewritten r s }
+    ensures voltype { (r s : Records) (v : Id) (t : VolType) → AreRewritten r s
+        → AreRewritten r (changed v (typed t) s) }
 {}

@@ -8,6 +8,7 @@ mod found;
 mod laws;
 mod reading;
 mod records;
+mod rewriting;
 mod settle;
 mod subchain;
 mod volume;
@@ -15,7 +16,8 @@ mod volume_list;
 
 pub use found::FoundVolumes;
 pub use laws::{
-    paths_are_short, records_refuse_as_the_opening, settling_keeps_paths, settling_reads_alike,
+    paths_are_short, records_refuse_as_the_opening, settling_goes_by_volumes, settling_keeps_paths,
+    settling_reads_alike,
 };
 pub use records::VolumeRecords;
 pub use volume::Volume;

@@ -15,8 +15,8 @@ impl VolumeRecords {
     /// The path of the reading volume, the LEGAL one on whose path each other LEGAL one stands: first the volume, and
     /// last its base. None where no volume is that.
     pub fn reading_path(&self) -> Option<VolumeList>
-        ensures { MatchOption result (HasNoReading (records_in self.now)) (λ path. IsReadingPath
-            (records_in self.now) path) }
+        ensures { MatchOption result (HasNoReading (records_in self.now))
+            (λ path. IsReadingPath (records_in self.now) path) }
     {
         for volume in self.as_slice() {
             if let Some(path) = self.reading_path_of(&volume.id) {

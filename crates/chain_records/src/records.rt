@@ -1,10 +1,12 @@
 // The records of an image's volumes, in the order in which they were put in.
-ghost use Rattle.std.specs.Prelude.{◌≡◌, ◌↔◌, ◌<◌, ◌≤◌, ◌++◌, [], ◌∷◌, length, is_some, option_copied, IfOk, IsTrue};
+ghost use Rattle.std.specs.Prelude.{◌≡◌, ◌↔◌, ◌<◌, ◌≤◌, ◌++◌, [], ◌∷◌, length, is_some, option_copied, slice_get, slice_set, Some, IfOk, IsTrue};
 ghost use Rattle.chain_model.specs.Records.{is_legal, is_passed, legal_in, parent, parent_in, passed_in};
+ghost use Rattle.chain_records.specs.declared.volume.Volume.{Volume as AnyVolume};
 ghost use Rattle.chain_records.specs.Records.{records_in};
+ghost use Rattle.chain_records.specs.Rewriting.{naming, typed, with_meta};
 
 use crate::volume::Volume;
-use sd_names::{Id, Legality, NoMemory};
+use sd_names::{Id, Legality, NoMemory, VolType};
 use std::alloc::Global;
 use std::marker::Model;
 use volume_meta::VolumeRecord;
@@ -57,13 +59,33 @@ impl VolumeRecords {
         &self.volumes
     }
 
+    // Lets the volume at a place name this parent.
+    pub(crate) fn put_parent(&mut self, at: usize, parent: Id)
+        requires { at < length self.old }
+        ensures { (x : AnyVolume) → slice_get self.old at ≡ Some x
+            → self.new ≡ slice_set self.old at (with_meta (naming parent) x) }
+    {
+        let volume = &mut self.volumes[at];
+        volume.meta.parent = parent;
+    }
+
+    // Gives the volume at a place this VOLTYPE.
+    pub(crate) fn put_voltype(&mut self, at: usize, voltype: VolType)
+        requires { at < length self.old }
+        ensures { (x : AnyVolume) → slice_get self.old at ≡ Some x
+            → self.new ≡ slice_set self.old at (with_meta (typed voltype) x) }
+    {
+        let volume = &mut self.volumes[at];
+        volume.meta.voltype = voltype;
+    }
+
     /// The record of a volume.
     pub fn get(&self, id: &Id) -> Option<&VolumeRecord>
         ensures { option_copied result ≡ records_in self.now id.now }
     {
         for volume in self.as_slice() {
             if volume.id.is(id) {
-                return Some(&volume.record);
+                return Some(&volume.meta);
             }
         }
         None

@@ -9,7 +9,7 @@ pub struct Volume {
     /// The volume.
     pub id: Id,
     /// What its text says.
-    pub record: VolumeRecord,
+    pub meta: VolumeRecord,
     /// Whether its file is there.
     pub has_file: bool,
 }

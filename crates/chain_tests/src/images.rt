@@ -51,7 +51,7 @@ pub fn records(alloc: Global, rows: &[Row], missing: u8) -> Result<VolumeRecords
         if records.len() < 32 {
             records.push(Volume {
                 id: id(row.0),
-                record: record(alloc, row),
+                meta: record(alloc, row),
                 has_file: row.0 != missing,
             });
         }

@@ -89,3 +89,36 @@ fn headers(rt: HostRuntime) -> Result<(), NoMemory> {
     }
     Ok(())
 }
+
+// Once all is written there is nothing left to write, and the path is as it was.
+#[test]
+fn written_records(rt: HostRuntime) -> Result<(), NoMemory> {
+    let mut records = records(rt.alloc(), &ROWS, 0)?;
+    for number in 1..7 {
+        let volume = id(number);
+        if let Some(parent) = records.parent_to_write(&volume) {
+            records.write_parent(&volume, parent);
+        }
+    }
+    for number in 1..7 {
+        let volume = id(number);
+        assert!(rt; records.parent_to_write(&volume).is_none());
+        if let Some(voltype) = records.voltype_to_have(&volume) {
+            records.write_voltype(&volume, voltype);
+        }
+    }
+    for (volume, parent, voltype) in [
+        (3, 1, VolType::Leaf),
+        (4, 1, VolType::Internal),
+        (5, 4, VolType::Leaf),
+    ] {
+        let found = records.get(&id(volume));
+        assert!(rt; found.is_some_and(|meta| number(&meta.parent) == parent));
+        assert!(rt; found.is_some_and(|meta| meta.voltype == voltype));
+    }
+    assert!(rt; records.first_refusal().is_none());
+    let want = [id(4), id(1)];
+    let path = records.reading_path();
+    assert!(rt; path.is_some_and(|path| path.as_slice() == want.as_slice()));
+    Ok(())
+}
