@@ -14,7 +14,7 @@ use Rattle.chain_model.specs.Opening.{id_cmp}
 use Rattle.pool_model.specs.Pool.{History, no_pool}
 use Rattle.pool_model.specs.Standing.{IsBare, ShowsImage, Stands, TasksStand, metadata_of}
 
-none_not_some : {A : Type 0} (o : Option A) (a : A) → o ≡ None → o ≡ Some a → ⊥
+pub none_not_some : {A : Type 0} (o : Option A) (a : A) → o ≡ None → o ≡ Some a → ⊥
 none_not_some o a e f = cc
 
 shows_none : (d : Content) (sd : Id) → IsEmpty d → ShowsImage d sd → ⊥
@@ -30,7 +30,7 @@ bare d history sd empty = record {
   hidden = λ e shows. shows_none d sd empty shows;
 }
 
-none_rises : IsStrictlySortedBy (λ (a b : Id × TaskState). id_cmp a.0 b.0) []
+pub none_rises : IsStrictlySortedBy (λ (a b : Id × TaskState). id_cmp a.0 b.0) []
 unfolding IsStrictlySortedBy
 none_rises = tt
 

@@ -24,7 +24,7 @@ use Rattle.pool_model.proofs.Settles.{same_image}
 
 -- ---- a volume that is LEGAL in the pool is LEGAL in its text
 
-legal_by : (z : VolumeRecord) → z.legality ≡ Legal → legal_in z ≡ true
+pub legal_by : (z : VolumeRecord) → z.legality ≡ Legal → legal_in z ≡ true
 legal_by z e = rw e refl
 
 same_record : (says : Result VolumeRecord VolumeFault) (y z : VolumeRecord) → says ≡ Ok z → says ≡ Ok y → z ≡ y

@@ -6,3 +6,6 @@ pub mod Frames
 pub mod OneDomain
 pub mod OneImage
 pub mod OnePool
+pub mod Settled
+pub mod RawBase
+pub mod MadePool

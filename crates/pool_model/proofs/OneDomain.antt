@@ -50,7 +50,8 @@ one_is d sd (Some t) (Some u) x y = ap (λ (s : Said). Some s) (one_text d sd t 
 
 pub same_text : (up : Hosts) (d : Content) (p q : Pool) (sd : Id) → Stands up d p → Stands up d q → text_of p sd ≡ text_of q sd
 same_text up d p q sd x y =
-    one_is d sd (text_of p sd) (text_of q sd) (text_is up d p sd (p.domain sd) (p.stray sd) (x.domain sd)) (text_is up d q sd (q.domain sd) (q.stray sd) (y.domain sd))
+    one_is d sd (text_of p sd) (text_of q sd) (text_is up d p sd (p.domain sd) (p.stray sd) (x.domain sd)) (text_is up d q sd (q.domain sd) (q.stray sd)
+    (y.domain sd))
 
 -- ---- the master
 
@@ -85,7 +86,8 @@ master_by up d p sd r (Some a) s lists is stands text role =
 master_by up d p sd r None (Some t) lists is stands text role = absurd (not_regular r.role role (stands.role r (said_is (Some t) t r refl text)))
 master_by up d p sd r None None lists is stands text role = absurd (no_said None r refl text)
 
-master_of : (up : Hosts) (d : Content) (p : Pool) (sd : Id) (r : DomainRecord) → Stands up d p → text_of p sd ≡ Some (Ok r) → r.role ≡ Master → p.master ≡ Some sd
+master_of : (up : Hosts) (d : Content) (p : Pool) (sd : Id) (r : DomainRecord) → Stands up d p → text_of p sd ≡ Some (Ok r) → r.role ≡ Master
+    → p.master ≡ Some sd
 master_of up d p sd r stands = master_by up d p sd r (p.domain sd) (p.stray sd) stands.master refl (stands.domain sd)
 
 listed_text : (p : Pool) (sd : Id) (r : DomainRecord) → p.domain sd ≡ Some r → text_of p sd ≡ Some (Ok r)
@@ -110,7 +112,8 @@ one_master up d p q x y = go p.master q.master refl refl
 
 -- ---- the domains that it lists
 
-pub passes_domain : (up : Hosts) (d : Content) (p q : Pool) (sd : Id) (r : DomainRecord) → Stands up d p → Stands up d q → p.domain sd ≡ Some r → q.domain sd ≡ Some r
+pub passes_domain : (up : Hosts) (d : Content) (p q : Pool) (sd : Id) (r : DomainRecord) → Stands up d p → Stands up d q → p.domain sd ≡ Some r
+    → q.domain sd ≡ Some r
 passes_domain up d p q sd r x y listed = go p.master refl
   where
     go : (o : Option Id) → p.master ≡ o → q.domain sd ≡ Some r
@@ -118,7 +121,8 @@ passes_domain up d p q sd r x y listed = go p.master refl
     go (Some m) e =
         let ours = subst (λ (o : Option Id). MasterStands p o) e x.master in
         let theirs = subst (λ (o : Option Id). MasterStands q o) (passes_master up d p q m x y e) y.master in
-        let same = said_one (text_of q m) ours.is theirs.is (sym (same_text up d p q m x y) ∙ listed_text p m ours.is ours.listed) (listed_text q m theirs.is theirs.listed) in
+        let same = said_one (text_of q m) ours.is theirs.is (sym (same_text up d p q m x y)
+        ∙ listed_text p m ours.is ours.listed) (listed_text q m theirs.is theirs.listed) in
         let among = subst (λ (s : DomainRecord). Contains s.domains sd) same ((ours.lists sd).1 (r, listed)) in
         let has = (theirs.lists sd).0 among in
         has.1 ∙ ap (λ (s : DomainRecord). Some s)
@@ -135,7 +139,8 @@ one_domain up d p q sd x y = go (p.domain sd) (q.domain sd) refl refl
 -- ---- all others
 
 -- of a domain that isn't listed
-pub bare_of : (up : Hosts) (d : Content) (p : Pool) (sd : Id) (o : Option DomainRecord) (s : Option Said) → DomainStands up d p sd o s → o ≡ None → IsBare d p sd
+pub bare_of : (up : Hosts) (d : Content) (p : Pool) (sd : Id) (o : Option DomainRecord) (s : Option Said) → DomainStands up d p sd o s → o ≡ None
+    → IsBare d p sd
 bare_of up d p sd (Some r) s stands e = absurd (no_record (Some r) r e refl)
 bare_of up d p sd None (Some t) stands e = stands.bare
 bare_of up d p sd None None stands e = stands.bare
@@ -153,7 +158,8 @@ one_stray up d p q sd x y = go (p.domain sd) refl
     go (Some r) e = (listed_here up d q sd r y (passes_domain up d p q sd r x y e)).stray ∙ sym (listed_here up d p sd r x e).stray
     go None e =
         let f = one_domain up d p q sd x y ∙ e in
-        sym (ap (λ (o : Option DomainRecord). text_by o (q.stray sd)) f) ∙ sym (same_text up d p q sd x y) ∙ ap (λ (o : Option DomainRecord). text_by o (p.stray sd)) e
+        sym (ap (λ (o : Option DomainRecord). text_by o (q.stray sd)) f) ∙ sym (same_text up d p q sd x y)
+        ∙ ap (λ (o : Option DomainRecord). text_by o (p.stray sd)) e
 
 pub one_shows : (up : Hosts) (d : Content) (p q : Pool) (sd : Id) → Stands up d p → Stands up d q → q.shows sd ≡ p.shows sd
 one_shows up d p q sd x y = go (p.domain sd) refl

@@ -56,7 +56,8 @@ one_said r all v (Some (Ok y)) a b is p q =
 
 -- ---- rooms
 
-one_room : (m n : Image) (v : Id) (a b is : Option Room) → m.torn ≡ None → n.torn ≡ None → MayHaveRoom (torn_room m.torn v) a is → MayHaveRoom (torn_room n.torn v) b is → b ≡ a
+one_room : (m n : Image) (v : Id) (a b is : Option Room) → m.torn ≡ None → n.torn ≡ None → MayHaveRoom (torn_room m.torn v) a is
+    → MayHaveRoom (torn_room n.torn v) b is → b ≡ a
 one_room m n v a b is e f p q =
     sym (subst (λ (o : Option Torn). MayHaveRoom (torn_room o v) b is) f q) ∙ subst (λ (o : Option Torn). MayHaveRoom (torn_room o v) a is) e p
 
@@ -87,7 +88,8 @@ same_capacity r v (Some (Ok y)) says z p e = (y, refl, ap (λ (w : VolumeRecord)
     same : (s : Says) → s ≡ Ok (settled_record p.0 y) → s ≡ Ok z → settled_record p.0 y ≡ z
     same s e f = cc
 
-one_list_read : (i : ImageIn) (x : Volumes) (v : Id) (a b : ℕ → List ℕ) → ReadsThrough i x v a → ReadsThrough i x v b → (k : ℕ) → IsSectorOf (records_of i x) v k → b k ≡ a k
+one_list_read : (i : ImageIn) (x : Volumes) (v : Id) (a b : ℕ → List ℕ) → ReadsThrough i x v a → ReadsThrough i x v b → (k : ℕ)
+    → IsSectorOf (records_of i x) v k → b k ≡ a k
 one_list_read i x v a b p q k within =
     sym (q.2 k within) ∙ ap (λ (vs : List Id). flat (records_of i x) x v vs k) (one_below (records_of i x) v q.0 p.0 q.1 p.1) ∙ p.2 k within
 

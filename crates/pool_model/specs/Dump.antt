@@ -154,7 +154,8 @@ abbrev pub IsDomainRead : Content → Id → Result DomainRecord DomainFault →
 IsDomainRead d sd (Err fault) value = value ≡ fault_data 34 sd
 IsDomainRead d sd (Ok r) value =
     ((known_version r.version ≡ false) × (value ≡ fault_data 35 sd))
-    ⊎ ((known_version r.version ≡ true) × ((images : Data) × IsArray (IsImageName d sd) (IsImageValue d sd r.version) images × (value ≡ domain_data sd r images)))
+    ⊎ ((known_version r.version ≡ true) × ((images : Data) × IsArray (IsImageName d sd) (IsImageValue d sd r.version) images
+    × (value ≡ domain_data sd r images)))
 
 abbrev pub IsDomainValue : Content → Id → Data → Type 0
 IsDomainValue d sd value = (text : List ℕ) × ShowsText d (dir.DomMd sd) name.Metadata text × IsDomainRead d sd (read_domain sd text) value

@@ -1,25 +1,36 @@
 -- Laws of disks that stand for a pool, as statements.
-use Rattle.std.specs.Prelude.{◌≡◌, ◌≢◌, ◌⊎◌, ℕ, false, List, Some, None, Ok}
+use Rattle.std.specs.Prelude.{◌≡◌, ◌≢◌, ◌⊎◌, ℕ, ◌*◌, ◌<◌, false, List, [], ◌∷◌, Some, None, Ok}
 use Rattle.sd_names.specs.UpSet.{Hosts, is_up}
 use Rattle.sd_names.specs.declared.id.Id.{Id}
+use Rattle.sd_names.specs.Id.{zero_id}
+use Rattle.sd_names.specs.declared.kinds.Format.TheVariants.{Raw}
 use Rattle.sd_names.specs.declared.kinds.Legality.TheVariants.{Legal}
+use Rattle.sd_names.specs.declared.kinds.Role.TheVariants.{Master}
+use Rattle.sd_names.specs.declared.kinds.VolType.TheVariants.{Leaf}
 use Rattle.sd_names.specs.declared.place.Dir.TheVariants as dir
 use Rattle.sd_names.specs.declared.place.Name.{Name}
-use Rattle.shared_disk.specs.Content.{Content, IsEmpty}
-use Rattle.shared_disk.specs.Crash.{IsAllSettled, IsOutcome}
+use Rattle.sd_names.specs.declared.place.Name.TheVariants as name
+use Rattle.sd_names.specs.declared.place.Place.{Place}
+use Rattle.shared_disk.specs.Content.{Content, File, IsEmpty, zero_sector}
+use Rattle.shared_disk.specs.Crash.{IsAllSettled, IsOutcome, IsSettled}
+use Rattle.shared_disk.specs.NameCalls.{place_in}
+use Rattle.folder_layout.specs.Layout.{HoldsName}
+use Rattle.volume_meta.specs.Read.{read_volume}
 use Rattle.volume_meta.specs.declared.record.VolumeRecord.{VolumeRecord}
 use Rattle.domain_meta.specs.declared.record.DomainRecord.{DomainRecord}
 use Rattle.lease_area.specs.declared.sector.LeaseRecord.{LeaseRecord}
 use Rattle.chain_model.specs.Chain.{IsBelow}
 use Rattle.chain_model.specs.Flat.{IsSectorOf, flat}
-use Rattle.chain_model.specs.Folder.{Volumes, folder_of, volumes_of}
-use Rattle.chain_model.specs.Records.{Image as ImageIn, records_of}
+use Rattle.chain_model.specs.Folder.{Folder, Volumes, folder_of, volumes_of}
+use Rattle.chain_model.specs.Records.{Image as ImageIn, records_of, stored_text}
 use Rattle.pool_model.specs.Covered.{Covered, Keeps}
+use Rattle.pool_model.specs.ImageStands.{FolderMeans, IsImage}
 use Rattle.pool_model.specs.Leases.{IsGuest, IsNamed, Leads, NamesAt}
+use Rattle.pool_model.specs.Made.{base_image, master_pool}
 use Rattle.pool_model.specs.Owned.{AlsoLonger, OwnedImages}
 use Rattle.pool_model.specs.Pool.{History, Image, Pool, Volume, no_pool}
 use Rattle.pool_model.specs.Same.{SamePool}
-use Rattle.pool_model.specs.Standing.{ImageStands, Stands}
+use Rattle.pool_model.specs.Standing.{HasDomainText, HasFolders, ImageStands, IsAlive, IsZeroFile, Stands, box_sectors, file_in, lease_sectors, metadata_of}
 use Rattle.pool_model.specs.Tasks.{IsMaking}
 
 -- ---- the empty disk
@@ -49,7 +60,8 @@ pub record IsClaimed (p : Pool) (sd i : Id) (r : DomainRecord) (m : Image) : Typ
   pub image : p.image sd i ≡ Some m
 
 abbrev pub NobodyTears : Type 0
-NobodyTears = (up : Hosts) (d : Content) (p : Pool) (sd i : Id) (r : DomainRecord) (m : Image) → Nobody up → Stands up d p → IsClaimed p sd i r m → m.torn ≡ None
+NobodyTears = (up : Hosts) (d : Content) (p : Pool) (sd i : Id) (r : DomainRecord) (m : Image) → Nobody up → Stands up d p → IsClaimed p sd i r m
+    → m.torn ≡ None
 
 -- ---- one disk, one pool
 
@@ -75,6 +87,58 @@ FlatListsAreRead =
     (up : Hosts) (d o : Content) (p : Pool) (sd i v : Id) (r : DomainRecord) (m : Image) (w : Volume) (y : VolumeRecord) → Stands up d p
     → IsClaimed p sd i r m → m.fault ≡ None → m.torn ≡ None → m.volume v ≡ Some w → w.says ≡ Ok y → y.legality ≡ Legal → IsOutcome d o
     → ReadsThrough (image_in sd i r) (volumes_in o sd i) v w.flat
+
+-- ---- a made pool
+
+-- A disk with one domain: its text, which reads as this master's record, its folders, leases and boxes of zeros, and no image's
+-- folder, no task and no other domain's text anywhere.
+pub record HoldsMaster (up : Hosts) (d : Content) (r : DomainRecord) : Type 0 where
+  pub role : r.role ≡ Master
+  pub lists : r.domains ≡ r.sduuid ∷ []
+  pub version : (r.version ≡ 4) ⊎ (r.version ≡ 5)
+  pub text : HasDomainText d r.sduuid (Ok r)
+  pub folders : HasFolders d r.sduuid
+  pub leases : IsZeroFile lease_sectors (file_in r.sduuid name.Leases d)
+  pub inboxes : IsZeroFile box_sectors (file_in r.sduuid name.Inbox d)
+  pub outboxes : IsZeroFile box_sectors (file_in r.sduuid name.Outbox d)
+  pub images : (sd i : Id) → (d.dir (dir.Image sd i) ≡ false) × (d.dir (dir.Removed sd i) ≡ false)
+  pub no_files : (sd i : Id) (n : Name) → (d.file (place_in (dir.Image sd i) n) ≡ None) × (d.file (place_in (dir.Removed sd i) n) ≡ None)
+  pub tasks : (sd t : Id) → d.file (place_in (dir.Tasks sd) (name.Task t)) ≡ None
+  pub texts : (sd : Id) → sd ≢ r.sduuid → d.file (metadata_of sd) ≡ None
+  pub alive : (q : Place) (f : File) → d.file q ≡ Some f → IsAlive up f
+  pub layout : (q : Place) (f : File) → d.file q ≡ Some f → HoldsName q.dir q.name
+
+abbrev pub MadePoolsStand : Type 0
+MadePoolsStand = (up : Hosts) (d : Content) (r : DomainRecord) (history : History) → HoldsMaster up d r → Stands up d (master_pool r (no_pool history))
+
+-- ---- what a made image means
+
+-- nothing in the folder is unsynced
+abbrev pub IsSettledFolder : Folder → Type 0
+IsSettledFolder F = (n : Name) (f : File) → F n ≡ Some f → IsSettled f
+
+abbrev pub SettledFoldersMean : Type 0
+SettledFoldersMean = (i : ImageIn) (m : Image) (F : Folder) → IsSettledFolder F → IsImage i (volumes_of F) m → FolderMeans i m F
+
+-- The folder has one volume: its text, which gives the record of a raw LEGAL volume without a parent, as a new one's is, and a
+-- file of zeros as long as its capacity.
+pub record HoldsRawBase (i : ImageIn) (F : Folder) (v : Id) (y : VolumeRecord) : Type 0 where
+  pub settled : IsSettledFolder F
+  pub text : File
+  pub text_is : F (name.Meta v) ≡ Some text
+  pub reads : read_volume i.version i.domain i.id (stored_text text) ≡ Ok y
+  pub file : File
+  pub file_is : F (name.Volume v) ≡ Some file
+  pub zeros : (k : ℕ) → k < file.size → file.stable k ≡ zero_sector
+  pub size : y.capacity ≡ 512 * file.size
+  pub format : y.format ≡ Raw
+  pub legal : y.legality ≡ Legal
+  pub base : y.parent ≡ zero_id
+  pub leaf : y.voltype ≡ Leaf
+  pub others : (w : Id) → w ≢ v → F (name.Meta w) ≡ None
+
+abbrev pub RawBasesMean : Type 0
+RawBasesMean = (i : ImageIn) (F : Folder) (v : Id) (y : VolumeRecord) → HoldsRawBase i F v y → FolderMeans i (base_image y v) F
 
 -- ---- what changes elsewhere leave
 

@@ -1,8 +1,10 @@
 -- The counts that a verb's bound goes by are those of the disk, as its host sees it, in the moment in which the verb took its
 -- lease, or began where it takes none.
-use Rattle.std.specs.Prelude.{◌≡◌, ◌⊎◌, ℕ, ◌||◌, Bool, true, false, List, [], ◌∷◌, length, Option, Some, None}
+use Rattle.std.specs.Prelude.{◌≡◌, ◌⊎◌, ℕ, ◌||◌, Bool, true, false, List, [], ◌∷◌, length, Contains, Option, Some, None}
 use Rattle.std.specs.List.{list_any, sum}
 use Rattle.std.specs.Option.{option_map}
+use Rattle.std.specs.List.Sorted.{IsStrictlySortedBy}
+use Rattle.std.specs.Ordering.{ordering_then}
 use Rattle.sd_names.specs.declared.id.Id.{Id}
 use Rattle.sd_names.specs.declared.place.Dir.{Dir}
 use Rattle.sd_names.specs.declared.place.Dir.TheVariants as dir
@@ -12,15 +14,21 @@ use Rattle.shared_disk.specs.Content.{Content, File, seen}
 use Rattle.shared_disk.specs.NameCalls.{place_in}
 use Rattle.volume_meta.specs.declared.record.VolumeRecord.{VolumeRecord}
 use Rattle.domain_meta.specs.declared.record.DomainRecord.{DomainRecord}
+use Rattle.task_store.specs.declared.task.Task.{Task}
+use Rattle.task_store.specs.declared.undo.Undo.{Undo}
+use Rattle.task_store.specs.declared.undo.Undo.TheVariants as undo
 use Rattle.chain_model.specs.Chain.{path_of}
 use Rattle.chain_model.specs.Folder.{Volumes}
-use Rattle.chain_model.specs.Opening.{AreVolumes}
+use Rattle.chain_model.specs.Opening.{AreVolumes, id_cmp}
 use Rattle.chain_model.specs.Reading.{HasNoReading, IsReading}
 use Rattle.chain_model.specs.Records.{Image as ImageIn, Records, records_of}
+use Rattle.pool_model.specs.Leases.{IsTasked}
+use Rattle.pool_model.specs.Most.{most_open}
 use Rattle.pool_model.specs.Marks.{Mark, change, lead}
 use Rattle.pool_model.specs.Pool.{Pool}
 use Rattle.pool_model.specs.Sizes.{AreFolders, AreNames, HasNames, HasTables, Sizes, clusters_of}
 use Rattle.pool_model.specs.State.{Running}
+use Rattle.pool_model.specs.Tasks.{IsOpen, NoneOpen}
 use Rattle.pool_model.specs.Turns.{is_take}
 use Rattle.pool_model.specs.Verb.{Verb}
 use Rattle.pool_model.specs.Verb as verb
@@ -70,6 +78,11 @@ pub record MeasuresImage (h : ℕ) (d : Content) (i : ImageIn) (s : Sizes) : Typ
   pub tables : s.tables ≡ sum each
   pub path : HasPath (records_of i (seen_volumes h d i.domain i.id)) (seen_volumes h d i.domain i.id) s.path
 
+-- the bound of an opening of an image
+abbrev pub ImageTakes : ℕ → Content → Pool → Id → Id → ℕ → Type 0
+ImageTakes h d p sd i n =
+    (s : Sizes) × ((r : DomainRecord) × (p.domain sd ≡ Some r) × MeasuresImage h d (record { domain = sd; id = i; version = r.version }) s × (n ≡ most_open s))
+
 -- ---- the pool
 
 abbrev pub HasFoldersCount : Content → ℕ → Type 0
@@ -88,10 +101,43 @@ pub record MeasuresPool (d : Content) (p : Pool) (s : Sizes) : Type 0 where
   pub tasks : HasTaskNames d p.master s.tasks
   pub domains : HasDomains p p.master s.domains
 
+-- the images that a task holds, each once, and the names in their folders
+pub record AreHeld (p : Pool) (is : List (Id × Id)) : Type 0 where
+  pub rising : IsStrictlySortedBy (λ (a b : Id × Id). ordering_then (id_cmp a.0 b.0) (id_cmp a.1 b.1)) is
+  pub each : (sd i : Id) → Contains is (sd, i) → IsTasked p sd i
+  pub all : (sd i : Id) → IsTasked p sd i → Contains is (sd, i)
+
+abbrev pub NamesOf : Content → List (Id × Id) → List ℕ → Type 0
+NamesOf d [] ns = ns ≡ []
+NamesOf d (i ∷ is) [] = ⊥
+NamesOf d (i ∷ is) (n ∷ ns) = HasNames d i.0 i.1 n × NamesOf d is ns
+
+-- what a step of an open task may take beside its own calls: an opening of its image, and zeros, of which a removal has none
+abbrev pub StepTakes : ℕ → Content → Pool → Undo → ℕ → Type 0
+StepTakes h d p (undo.RemoveImage sd i) n = ImageTakes h d p sd i n
+StepTakes h d p (undo.FinishRemove sd i) n = ImageTakes h d p sd i n
+StepTakes h d p _ n = ⊥
+
+abbrev pub StepsTake : ℕ → Content → Pool → List Undo → List ℕ → Type 0
+StepsTake h d p [] ns = ns ≡ []
+StepsTake h d p (step ∷ steps) [] = ⊥
+StepsTake h d p (step ∷ steps) (n ∷ ns) = StepTakes h d p step n × StepsTake h d p steps ns
+
+abbrev pub OpenTakes : ℕ → Content → Pool → List ℕ → Type 0
+OpenTakes h d p ns = ((t : Id) × ((x : Task) × IsOpen p t x × StepsTake h d p x.steps ns)) ⊎ (NoneOpen p × (ns ≡ []))
+
+-- what recovery counts
+pub record MeasuresRecovery (h : ℕ) (d : Content) (p : Pool) (s : Sizes) : Type 0 where
+  pub pool : MeasuresPool d p s
+  pub images : List (Id × Id)
+  pub are : AreHeld p images
+  pub held : NamesOf d images s.held
+  pub steps : OpenTakes h d p s.open_steps
+
 -- what each verb counts
 abbrev pub Measured : ℕ → Verb → Content → Pool → Sizes → Type 0
 Measured h (verb.make_pool pool sd version text) d p s = HasFoldersCount d s.folders
-Measured h (verb.spm_start sd prev lver) d p s = MeasuresPool d p s
+Measured h (verb.spm_start sd prev lver) d p s = MeasuresRecovery h d p s
 Measured h verb.spm_stop d p s = MeasuresPool d p s
 Measured h (verb.create t sd i v format kind capacity text) d p s = Unit {0}
 Measured h (verb.delete_image t sd i) d p s = HasNames d sd i s.names
@@ -104,7 +150,7 @@ Measured h (verb.write sd i at bytes) d p s =
     (r : DomainRecord) × (p.domain sd ≡ Some r) × MeasuresImage h d (record { domain = sd; id = i; version = r.version }) s
 Measured h verb.tasks d p s = MeasuresPool d p s
 Measured h (verb.clear_task t) d p s = MeasuresPool d p s
-Measured h verb.recover d p s = MeasuresPool d p s
+Measured h verb.recover d p s = MeasuresRecovery h d p s
 Measured h _ d p s = ⊥
 
 -- ---- when it is counted

@@ -1,6 +1,6 @@
 // Laws of disks that stand for a pool.
 ghost use Rattle.pool_model.specs.Laws.{EmptyStands, FlatListsAreRead, GuestsKeepImages, ImageFrame, NobodySettles, OnePool};
-ghost use Rattle.pool_model.specs.Laws.{NobodyTears, StandingIsCovered, StandingKeeps};
+ghost use Rattle.pool_model.specs.Laws.{MadePoolsStand, NobodyTears, RawBasesMean, SettledFoldersMean, StandingIsCovered, StandingKeeps};
 
 /// A law: a disk that holds nothing stands for the pool that isn't made yet, whichever hosts are up.
 pub fn empty_disks_stand()
@@ -32,6 +32,19 @@ pub fn disks_stand_for_one_pool()
 /// task makes or removes it.
 pub fn flat_lists_are_read_through_chains()
     ensures { FlatListsAreRead }
+{}
+
+/// A law: a disk with one domain, whose text reads as a master's that lists itself, with leases and boxes of zeros and
+/// nothing of images and tasks, stands for the pool that was just made.
+pub fn made_pools_stand()
+    ensures { MadePoolsStand }
+{}
+
+/// A law: a folder in which nothing is unsynced means an image where its files do as they stand; and so do the files
+/// of a new raw volume: its text, and its file of zeros.
+pub fn made_images_are_meant()
+    ensures settled { SettledFoldersMean }
+    ensures raw { RawBasesMean }
 {}
 
 /// A law: a step that leaves an image's folders, its sector, its tasks and what the pool says of it alone leaves what
