@@ -1,7 +1,7 @@
 // Laws of linking: contracts of functions that do nothing.
-ghost use Rattle.std.specs.Prelude.{◌≡◌, ◌≢◌, ℕ, ◌*◌, ◌/◌, ◌^◌, ◌<◌, Ok, Some};
+ghost use Rattle.std.specs.Prelude.{◌≡◌, ◌≢◌, ◌⊎◌, ℕ, ◌*◌, ◌/◌, ◌^◌, ◌<◌, Ok, Some};
 ghost use Rattle.shared_disk.specs.Content.{Content, File};
-ghost use Rattle.shared_disk.specs.Crash.{DownLeaves};
+ghost use Rattle.shared_disk.specs.Crash.{DownLeaves, IsSettled};
 ghost use Rattle.qcow_format.specs.declared.header.Header.{Header};
 ghost use Rattle.qcow_format.specs.declared.entry.Entry.TheVariants.{Zero};
 ghost use Rattle.image_model.specs.File as image;
@@ -9,11 +9,11 @@ ghost use Rattle.image_model.specs.Layer.{Tables, entry_at};
 ghost use Rattle.image_model.specs.Soundness.{IsSound, layer_header};
 ghost use Rattle.layer_laws.specs.Laws.{IsNamedOnlyAt, entry_position, layer};
 ghost use Rattle.link_laws.specs.Links.{IsCounted, row_of};
-ghost use Rattle.layer_writing.specs.Holding.{IsSpare};
+ghost use Rattle.layer_writing.specs.Holding.{ComesBy, IsSpare};
 ghost use Rattle.qcow_layer.specs.Opening.{place_kept};
 ghost use Rattle.qcow_layer.specs.declared.layer.Layer.{Layer};
 ghost use Rattle.layer_linking.specs.Calls.{first_stage, stage_of, table_given, table_of};
-ghost use Rattle.layer_linking.specs.Linking.{IsLinkable, KnowsLinking};
+ghost use Rattle.layer_linking.specs.Linking.{IsAsBefore, IsLeftSo, IsLinkable, IsLinked, KnowsLinking};
 ghost use Rattle.layer_linking.specs.declared.linking.Linking.{Linking};
 
 /// A linking that was begun knows a file in which it may begin.
@@ -26,6 +26,13 @@ pub fn linkings_begin()
 pub fn linkings_stay_known()
     ensures untouched { (l : Linking) (layer : Layer) (host : ℕ) (f : File) (d e : Content) → e.file (place_kept layer) ≡ d.file (place_kept layer) → KnowsLinking l layer host f d → KnowsLinking l layer host f e }
     ensures down { (l : Linking) (layer : Layer) (host other : ℕ) (f : File) (d e : Content) → host ≢ other → DownLeaves d other e → KnowsLinking l layer host f d → KnowsLinking l layer host f e }
+{}
+
+/// Each outcome of the file in the course of a linking comes from the file in which it began: it has none of the entries, or
+/// all.
+pub fn outcomes_come_from_the_start()
+    ensures { (l : Linking) (layer : Layer) (host : ℕ) (f : File) (e : Content) → IsSettled f → (left : IsLeftSo layer l host f e)
+        → ComesBy (λ from now. IsAsBefore layer from now ⊎ IsLinked layer l from now) f left.file }
 {}
 
 /// Which places a cluster may get: one that is spare, as far as entries reach, and one that is kept for it already, where it
