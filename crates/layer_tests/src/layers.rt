@@ -8,6 +8,7 @@ use std::alloc::{AllocError, Global};
 mod creating;
 mod failing;
 mod faults;
+mod links;
 mod looks;
 mod opens;
 
@@ -129,7 +130,7 @@ fn open_layer(
     capacity: u64,
 ) -> Result<Layer, Refusal> {
     let mut work = Opening::begin(alloc, VOLUME, FILE, capacity, capacity)?;
-    for _ in 0..10_000 {
+    for _ in 0..40_000 {
         match work.step(host, disk) {
             Turn::More(next) => work = next,
             Turn::Done(layer) => return Ok(layer),
