@@ -23,7 +23,7 @@ pub record IsTaken (layer : Layer) (cluster : ℕ) (next : Layer) : Type 0 where
 abbrev pub IsLeastFree : Layer → ℕ → ℕ → Option ℕ → Type 0
 IsLeastFree layer first end None = (c : ℕ) → first ≤ c → c < end → c < mapped layer → is_free layer c ≡ false
 IsLeastFree layer first end (Some cluster) =
-    (first ≤ cluster) × (cluster < end) × (is_free layer cluster ≡ true) × ((c : ℕ) → first ≤ c → c < cluster → is_free layer c ≡ false)
+    (first ≤ cluster) × (cluster < end) × (cluster < mapped layer) × (is_free layer cluster ≡ true) × ((c : ℕ) → first ≤ c → c < cluster → is_free layer c ≡ false)
 
 -- ---- its header and its capacity
 

@@ -81,12 +81,13 @@ impl Layer {
         None
     }
 
-    /// Says in the map that a cluster of the file isn't free.
+    /// Says in the map that a cluster of the file isn't free. One that the map doesn't have never is.
     pub fn take(&mut self, cluster: u64)
-        requires { cluster < mapped self.old }
         ensures { IsTaken self.old cluster self.new }
     {
-        self.work.marks.free.remove(cluster);
+        if cluster < self.mapped() {
+            self.work.marks.free.remove(cluster);
+        }
     }
 
     /// Says that the file has this header, which has the tables at the same places, and this parent.

@@ -10,7 +10,7 @@ use shared_disk::{SharedDisk, refusal_for};
 /// The longest head of a layer, in bytes.
 pub(crate) const HEAD: usize = 65536;
 
-/// Reads the sector that begins at a place of the file, in bytes: zeros where it lies past the end. 120 and 122 alone.
+/// Reads the sector that begins at a place of a layer's file, in bytes: zeros past its end. 120 and 122 alone.
 pub fn read_sector<D: SharedDisk>(
     host: HostId,
     disk: &mut D,

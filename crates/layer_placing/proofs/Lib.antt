@@ -1,0 +1,11 @@
+pub mod Dispatch
+pub mod Ends
+pub mod Entries
+pub mod Finds
+pub mod Least
+pub mod Raises
+pub mod Starts
+pub mod Syncs
+pub mod Tables
+pub mod Widths
+pub mod Zeros

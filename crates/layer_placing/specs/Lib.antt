@@ -1,0 +1,4 @@
+pub mod Chosen
+pub mod Knows
+pub mod Placing
+pub mod Stages
