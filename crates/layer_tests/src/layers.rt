@@ -11,6 +11,7 @@ mod faults;
 mod links;
 mod looks;
 mod opens;
+mod placed;
 
 const VOLUME: Id = Id([0, 0, 0, 0, 0, 0, 0x40, 0, 0x80, 0, 0, 0, 0, 0, 1, 2]);
 
