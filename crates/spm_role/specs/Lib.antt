@@ -3,3 +3,4 @@ pub mod Master
 pub mod Look
 pub mod Asked
 pub mod Start
+pub mod History

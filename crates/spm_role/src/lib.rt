@@ -1,6 +1,7 @@
 //! The role of a pool's manager (the SPM): taking it by one exchange, and giving it up.
 #![tactic(auto)]
 
+pub mod laws;
 mod lists;
 mod looking;
 mod master;
