@@ -9,3 +9,5 @@ pub mod OnePool
 pub mod Settled
 pub mod RawBase
 pub mod MadePool
+pub mod Readings
+pub mod Boots

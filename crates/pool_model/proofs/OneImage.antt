@@ -44,7 +44,7 @@ own_outcome F all n = also_itself (F n) (all n)
 abbrev Says : Type 0
 Says = Result VolumeRecord VolumeFault
 
-known : (i : ImageIn) (x : Volumes) (all : List Id) → AreVolumes x all → (v : Id) (y : VolumeRecord) → records_of i x v ≡ Some y → Contains all v
+pub known : (i : ImageIn) (x : Volumes) (all : List Id) → AreVolumes x all → (v : Id) (y : VolumeRecord) → records_of i x v ≡ Some y → Contains all v
 known i x all are v y e = are.all v (text_there (λ f. read_volume i.version i.domain i.id (stored_text f)) (x.text v) y e)
 
 one_said : (r : Records) (all : List Id) (v : Id) (t : Option Says) (a b : Says) → ((w : Id) (y : VolumeRecord) → r w ≡ Some y → Contains all w)
@@ -70,7 +70,7 @@ one_opens i x m n (Some e) None p q = absurd (openable_without i x q.reading q.b
 one_opens i x m n (Some e) (Some f) p q = ap (λ (c : Refusal). Some c) (one_fault i x f e q p)
 
 -- the image's volumes are a list
-volumes_listed : (i : ImageIn) (x : Volumes) (m : Image) (a : Option Refusal) → OpensAs i x m a → (all : List Id) × AreVolumes x all
+pub volumes_listed : (i : ImageIn) (x : Volumes) (m : Image) (a : Option Refusal) → OpensAs i x m a → (all : List Id) × AreVolumes x all
 volumes_listed i x m None p = (p.opens.volumes, p.opens.are)
 volumes_listed i x m (Some e) p = (p.volumes, p.are)
 

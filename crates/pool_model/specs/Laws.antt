@@ -1,5 +1,5 @@
 -- Laws of disks that stand for a pool, as statements.
-use Rattle.std.specs.Prelude.{◌≡◌, ◌≢◌, ◌⊎◌, ℕ, ◌*◌, ◌<◌, false, List, [], ◌∷◌, Some, None, Ok}
+use Rattle.std.specs.Prelude.{◌≡◌, ◌≢◌, ◌⊎◌, ℕ, ◌*◌, ◌<◌, true, false, List, [], ◌∷◌, Some, None, Ok}
 use Rattle.sd_names.specs.UpSet.{Hosts, is_up}
 use Rattle.sd_names.specs.declared.id.Id.{Id}
 use Rattle.sd_names.specs.Id.{zero_id}
@@ -19,9 +19,10 @@ use Rattle.volume_meta.specs.Read.{read_volume}
 use Rattle.volume_meta.specs.declared.record.VolumeRecord.{VolumeRecord}
 use Rattle.domain_meta.specs.declared.record.DomainRecord.{DomainRecord}
 use Rattle.lease_area.specs.declared.sector.LeaseRecord.{LeaseRecord}
-use Rattle.chain_model.specs.Chain.{IsBelow}
+use Rattle.chain_model.specs.Chain.{IsBelow, counting}
 use Rattle.chain_model.specs.Flat.{IsSectorOf, flat}
 use Rattle.chain_model.specs.Folder.{Folder, Volumes, folder_of, volumes_of}
+use Rattle.chain_model.specs.Reading.{IsReading}
 use Rattle.chain_model.specs.Records.{Image as ImageIn, records_of, stored_text}
 use Rattle.pool_model.specs.Covered.{Covered, Keeps}
 use Rattle.pool_model.specs.ImageStands.{FolderMeans, IsImage}
@@ -29,6 +30,7 @@ use Rattle.pool_model.specs.Leases.{IsGuest, IsNamed, Leads, NamesAt}
 use Rattle.pool_model.specs.Made.{base_image, master_pool}
 use Rattle.pool_model.specs.Owned.{AlsoLonger, OwnedImages}
 use Rattle.pool_model.specs.Pool.{History, Image, Pool, Volume, no_pool}
+use Rattle.pool_model.specs.Reading.{records_in}
 use Rattle.pool_model.specs.Same.{SamePool}
 use Rattle.pool_model.specs.Standing.{HasDomainText, HasFolders, ImageStands, IsAlive, IsZeroFile, Stands, box_sectors, file_in, lease_sectors, metadata_of}
 use Rattle.pool_model.specs.Tasks.{IsMaking}
@@ -62,6 +64,10 @@ pub record IsClaimed (p : Pool) (sd i : Id) (r : DomainRecord) (m : Image) : Typ
 abbrev pub NobodyTears : Type 0
 NobodyTears = (up : Hosts) (d : Content) (p : Pool) (sd i : Id) (r : DomainRecord) (m : Image) → Nobody up → Stands up d p → IsClaimed p sd i r m
     → m.torn ≡ None
+
+-- a host that boots changes nothing of that
+abbrev pub BootsStand : Type 0
+BootsStand = (up now : Hosts) (d : Content) (p : Pool) → ((h : ℕ) → is_up up h ≡ true → is_up now h ≡ true) → Stands up d p → Stands now d p
 
 -- ---- one disk, one pool
 
@@ -139,6 +145,14 @@ pub record HoldsRawBase (i : ImageIn) (F : Folder) (v : Id) (y : VolumeRecord) :
 
 abbrev pub RawBasesMean : Type 0
 RawBasesMean = (i : ImageIn) (F : Folder) (v : Id) (y : VolumeRecord) → HoldsRawBase i F v y → FolderMeans i (base_image y v) F
+
+-- ---- the reading volume
+
+-- the reading volume of the files is that of the pool's image, whose records have the parents that count
+abbrev pub ReadingAgrees : Type 0
+ReadingAgrees =
+    (i : ImageIn) (x : Volumes) (m : Image) (v : Id) (vs : List Id) → IsImage i x m → IsReading (records_of i x) v vs
+    → IsReading (records_in m) v (counting (records_of i x) vs)
 
 -- ---- what changes elsewhere leave
 

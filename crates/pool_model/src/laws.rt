@@ -1,6 +1,7 @@
 // Laws of disks that stand for a pool.
-ghost use Rattle.pool_model.specs.Laws.{EmptyStands, FlatListsAreRead, GuestsKeepImages, ImageFrame, NobodySettles, OnePool};
-ghost use Rattle.pool_model.specs.Laws.{MadePoolsStand, NobodyTears, RawBasesMean, SettledFoldersMean, StandingIsCovered, StandingKeeps};
+ghost use Rattle.pool_model.specs.Laws.{BootsStand, EmptyStands, FlatListsAreRead, GuestsKeepImages, ImageFrame};
+ghost use Rattle.pool_model.specs.Laws.{MadePoolsStand, NobodySettles, NobodyTears, OnePool, RawBasesMean};
+ghost use Rattle.pool_model.specs.Laws.{ReadingAgrees, SettledFoldersMean, StandingIsCovered, StandingKeeps};
 
 /// A law: a disk that holds nothing stands for the pool that isn't made yet, whichever hosts are up.
 pub fn empty_disks_stand()
@@ -19,6 +20,11 @@ pub fn standing_disks_are_kept()
 pub fn nothing_is_unsynced_without_hosts()
     ensures settled { NobodySettles }
     ensures untorn { NobodyTears }
+{}
+
+/// A law: a disk that stands for a pool still does once more hosts are up.
+pub fn booting_leaves_disks_standing()
+    ensures { BootsStand }
 {}
 
 /// A law: with no host up, two pools that one disk stands for are one, but for what has happened, flat lists of ILLEGAL
@@ -45,6 +51,11 @@ pub fn made_pools_stand()
 pub fn made_images_are_meant()
     ensures settled { SettledFoldersMean }
     ensures raw { RawBasesMean }
+{}
+
+/// A law: where an image's files mean the pool's image, their reading volume is the image's.
+pub fn one_volume_is_read()
+    ensures { ReadingAgrees }
 {}
 
 /// A law: a step that leaves an image's folders, its sector, its tasks and what the pool says of it alone leaves what
