@@ -3,7 +3,8 @@ ghost use Rattle.std.specs.Prelude.{◌≡◌, ◌≢◌, ◌⊎◌, ℕ, ◌+�
 ghost use Rattle.shared_disk.specs.Calls.{sectors_in, synced, wrote};
 ghost use Rattle.shared_disk.specs.Content.{Content, File, sector_of, seen};
 ghost use Rattle.shared_disk.specs.Crash.{DownLeaves, IsAlone, IsSettled, OnEach};
-ghost use Rattle.shared_disk.specs.WellFormed.{IsWellFormedFile};
+ghost use Rattle.shared_disk.specs.SectorCalls.{IsGrown};
+ghost use Rattle.shared_disk.specs.WellFormed.{IsWellFormed, IsWellFormedFile};
 ghost use Rattle.qcow_format.specs.declared.header.Header.{Header};
 ghost use Rattle.image_model.specs.File as image;
 ghost use Rattle.image_model.specs.Layer.{block_place};
@@ -82,10 +83,13 @@ pub fn one_sector_is_old_or_new()
     ensures synced { (host : ℕ) (old new : ℕ → List ℕ) (f : File) → IsBetween host old new f → IsSettled (synced host f) × ((synced host f).stable ≡ new) }
 {}
 
-/// What a writer knows stays true where others leave the file alone, and where they go down.
+/// What a writer knows stays true where others leave the file alone, where they go down, and where they make it longer by
+/// whole clusters.
 pub fn known_writers_stay_known()
     ensures untouched { (l : Layer) (host : ℕ) (d e : Content) → e.file (place_kept l) ≡ d.file (place_kept l) → KnowsWriterOn l host d → KnowsWriterOn l host e }
     ensures down { (l : Layer) (host other : ℕ) (d e : Content) → host ≢ other → DownLeaves d other e → KnowsWriterOn l host d → KnowsWriterOn l host e }
+    ensures grown { (l : Layer) (host size : ℕ) (d e : Content) → IsWellFormed d → 512 * size < 2 ^ 64 → 512 * size % 2 ^ (header_kept l).cluster_bits ≡ 0
+        → IsGrown d (place_kept l) size e → KnowsWriterOn l host d → KnowsWriterOn l host e }
 {}
 
 /// Outcomes hold what those hold from which they come, over any number of changes.

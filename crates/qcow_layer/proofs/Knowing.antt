@@ -115,7 +115,7 @@ module _ (layer : Layer) (host size : ℕ) (f : File) (within : (l : Loose) → 
   unfolding zero_sector
   zeros k le = sym (past_end f.size k (seen host f) le)
 
-  seen_raised : (k : ℕ) → sector_in size (seen host (raised size f)) k ≡ sector_in f.size (seen host f) k
+  pub seen_raised : (k : ℕ) → sector_in size (seen host (raised size f)) k ≡ sector_in f.size (seen host f) k
   seen_raised k = go (cases_lt k f.size) (cases_lt k size)
     where
       go : (k < f.size) ⊎ (f.size ≤ k) → (k < size) ⊎ (size ≤ k) → sector_in size (seen host (raised size f)) k ≡ sector_in f.size (seen host f) k
@@ -127,10 +127,10 @@ module _ (layer : Layer) (host size : ℕ) (f : File) (within : (l : Loose) → 
       go (inr le) (inr past) = past_end size k (seen host (raised size f)) past ∙ sym (past_end f.size k (seen host f) le)
 
   -- an outcome is one from before, with zeros behind it
-  before : File → File
+  unfoldable pub before : File → File
   before g = record { size = f.size; stable = λ k. if nat_lt k f.size then g.stable k else f.stable k; loose = []; fresh = None }
 
-  before_outcome : (g : File) → IsFileOutcome (raised size f) g → IsFileOutcome f (before g)
+  pub before_outcome : (g : File) → IsFileOutcome (raised size f) g → IsFileOutcome f (before g)
   unfolding before
   before_outcome g out = record {
     size = refl;
@@ -145,7 +145,7 @@ module _ (layer : Layer) (host size : ℕ) (f : File) (within : (l : Loose) → 
       go k true e = subst (λ (b : Bool). IsOutcomeSector f k (if b then g.stable k else f.stable k)) (sym e) (raised_old size k f (g.stable k) (below k e) (out.sectors k))
       go k false e = subst (λ (b : Bool). IsOutcomeSector f k (if b then g.stable k else f.stable k)) (sym e) (inl refl)
 
-  outcome_raised : (g : File) → IsFileOutcome (raised size f) g → (k : ℕ) → sector_in size g.stable k ≡ sector_in f.size (before g).stable k
+  pub outcome_raised : (g : File) → IsFileOutcome (raised size f) g → (k : ℕ) → sector_in size g.stable k ≡ sector_in f.size (before g).stable k
   unfolding before zero_sector
   outcome_raised g out k = go (cases_lt k f.size) (cases_lt k size)
     where
