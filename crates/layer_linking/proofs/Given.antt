@@ -1,5 +1,5 @@
 -- Which places a cluster of the virtual disk may get.
-use Rattle.std.proofs.Common.{◌≡◌, ◌≢◌, ◌⊎◌, inl, inr, ℕ, ◌*◌, ◌/◌, ◌%◌, ◌^◌, ◌<◌, ◌≤◌, Bool, true, false, List, length, take, Result, Ok, Err, refl, subst, arith, nat_lt}
+use Rattle.std.proofs.Common.{◌≡◌, ◌≢◌, ◌⊎◌, inl, inr, ℕ, ◌+◌, ◌*◌, ◌/◌, ◌%◌, ◌^◌, ◌<◌, ◌≤◌, Bool, true, false, List, length, take, Option, Some, Result, Ok, Err, refl, sym, subst, arith, nat_lt}
 use Rattle.std.specs.Prelude.{◌==◌, not, if◌then◌else◌}
 use Rattle.std.proofs.Math.Nat.{mul-le-mul_right}
 use Rattle.std.proofs.lemmas.Bool.{cases_lt}
@@ -15,11 +15,11 @@ use Rattle.qcow_format.specs.Format.{◌>>=◌}
 use Rattle.qcow_format.specs.Header.{fields_of, fine_fields, head_size, header_of, mapped, shape_of, sized, with_format}
 use Rattle.qcow_format.proofs.Accepted.{bind_ok, sized_ok}
 use Rattle.image_model.specs.File.{File}
-use Rattle.image_model.specs.Layer.{Tables, entries, entry_at, l2_at}
-use Rattle.image_model.specs.Soundness.{IsSound, layer_header, layer_header_of}
+use Rattle.image_model.specs.Layer.{Tables, entries, entry_at, l2_at, count_of}
+use Rattle.image_model.specs.Soundness.{IsSound, layer_header, layer_header_of, names}
 use Rattle.layer_laws.specs.Laws.{IsNamedOnlyAt, entry_position, layer}
 use Rattle.layer_laws.proofs.Sound.{clean_of, header_read, shape_of as header_shape, unique, zero_at}
-use Rattle.link_laws.specs.Links.{IsCounted, row_of}
+use Rattle.link_laws.specs.Links.{IsAmong, IsCounted, Linked, row_of}
 use Rattle.link_laws.proofs.Many.{inside}
 use Rattle.layer_writing.specs.Holding.{IsSpare}
 use Rattle.layer_linking.proofs.Sizes.{wide}
@@ -63,6 +63,40 @@ zero_given file capacity k place h is sound zero some =
       },
       λ x named. unique h file capacity shape clean x (entry_position (layer h file) k) place named at.name,
     )
+
+-- ---- places that a linking didn't give
+
+module _ (h : Header) (capacity : ℕ) (to behind : ℕ → Option ℕ) (f g : File) (linked : Linked h capacity to behind f g)
+    (place : ℕ) (apart : IsAmong to place → ⊥) (other : IsAmong behind place → ⊥) where
+  name_before : (m : ℕ) → names (layer h g) capacity m ≡ Some place → names (layer h f) capacity m ≡ Some place
+  name_before m named = go (linked.names m place named)
+    where
+      go : (names (layer h f) capacity m ≡ Some place) ⊎ (IsAmong to place ⊎ IsAmong behind place) → names (layer h f) capacity m ≡ Some place
+      go (inl was) = was
+      go (inr (inl among)) = absurd (apart among)
+      go (inr (inr among)) = absurd (other among)
+
+  count_now : 0 < count_of (layer h f) (place / 2 ^ h.cluster_bits) → 0 < count_of (layer h g) (place / 2 ^ h.cluster_bits)
+  count_now some = subst (λ (x : ℕ). 0 < x) (sym (linked.counts (place / 2 ^ h.cluster_bits))) some
+
+  pub spare_after : IsSpare (layer h f) capacity place → IsSpare (layer h g) capacity place
+  spare_after spare = record {
+    begins = spare.begins;
+    inside = subst (λ (x : ℕ). place + 2 ^ h.cluster_bits ≤ x) (sym linked.size) spare.inside;
+    counted = count_now spare.counted;
+    unnamed = λ m named. spare.unnamed m (name_before m named);
+  }
+
+  pub kept_after : (x : ℕ) → IsCounted (layer h f) place × IsNamedOnlyAt (layer h f) capacity x place → IsCounted (layer h g) place × IsNamedOnlyAt (layer h g) capacity x place
+  kept_after x was = (
+    record {
+      begins = was.0.begins;
+      fits = subst (λ (n : ℕ). place < n) (sym linked.size) was.0.fits;
+      low = was.0.low;
+      counted = count_now was.0.counted;
+    },
+    λ m named. was.1 m (name_before m named),
+  )
 
 -- ---- the L1 table reaches as far as the capacity
 

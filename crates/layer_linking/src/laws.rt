@@ -1,5 +1,5 @@
 // Laws of linking: contracts of functions that do nothing.
-ghost use Rattle.std.specs.Prelude.{◌≡◌, ◌≢◌, ◌⊎◌, ℕ, ◌*◌, ◌/◌, ◌^◌, ◌<◌, Ok, Some};
+ghost use Rattle.std.specs.Prelude.{◌≡◌, ◌≢◌, ◌⊎◌, ℕ, ◌*◌, ◌/◌, ◌^◌, ◌<◌, Option, Ok, Some};
 ghost use Rattle.shared_disk.specs.Content.{Content, File};
 ghost use Rattle.shared_disk.specs.Crash.{DownLeaves, IsSettled};
 ghost use Rattle.qcow_format.specs.declared.header.Header.{Header};
@@ -8,7 +8,7 @@ ghost use Rattle.image_model.specs.File as image;
 ghost use Rattle.image_model.specs.Layer.{Tables, entry_at};
 ghost use Rattle.image_model.specs.Soundness.{IsSound, layer_header};
 ghost use Rattle.layer_laws.specs.Laws.{IsNamedOnlyAt, entry_position, layer};
-ghost use Rattle.link_laws.specs.Links.{IsCounted, row_of};
+ghost use Rattle.link_laws.specs.Links.{IsAmong, IsCounted, Linked, row_of};
 ghost use Rattle.layer_writing.specs.Holding.{ComesBy, IsSpare};
 ghost use Rattle.qcow_layer.specs.Opening.{place_kept};
 ghost use Rattle.qcow_layer.specs.declared.layer.Layer.{Layer};
@@ -42,4 +42,12 @@ pub fn places_may_be_given()
     ensures zero { (file : image.File) (capacity k place : ℕ) (h : Header) → layer_header file capacity ≡ Ok h → IsSound file capacity → entry_at (layer h file) k ≡ Zero place → place ≢ 0
         → IsCounted (layer h file) place × IsNamedOnlyAt (layer h file) capacity (entry_position (layer h file) k) place }
     ensures row { (file : image.File) (capacity k : ℕ) (h : Header) → layer_header file capacity ≡ Ok h → k * 2 ^ h.cluster_bits < capacity → row_of (layer h file) (k / 64) < h.l1_size }
+{}
+
+/// Places that a linking didn't give are as good as they were for the next one.
+pub fn other_places_stay()
+    ensures spare { (h : Header) (capacity place : ℕ) (to behind : ℕ → Option ℕ) (f g : image.File) → Linked h capacity to behind f g → (IsAmong to place → ⊥) → (IsAmong behind place → ⊥)
+        → IsSpare (layer h f) capacity place → IsSpare (layer h g) capacity place }
+    ensures kept { (h : Header) (capacity m place : ℕ) (to behind : ℕ → Option ℕ) (f g : image.File) → Linked h capacity to behind f g → (IsAmong to place → ⊥) → (IsAmong behind place → ⊥)
+        → IsCounted (layer h f) place × IsNamedOnlyAt (layer h f) capacity m place → IsCounted (layer h g) place × IsNamedOnlyAt (layer h g) capacity m place }
 {}
