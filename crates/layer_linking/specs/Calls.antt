@@ -136,16 +136,33 @@ abbrev pub SyncsThen : Layer → ℕ → ℕ → Turn Linking (Unit {0}) (Unit {
 SyncsThen layer host faults next turn d e =
     (answer : Result (Unit {0}) DiskAnswer) × Syncs d host (place_kept layer) answer e × TurnFollows answer faults turn (λ _. turn ≡ next)
 
+-- a piece of zeros of a new table, the sector of its entries over zeros, and its sync
+abbrev pub ZeroesPiece : Linking → ℕ → ℕ → Layer → ℕ → ℕ → Turn Linking (Unit {0}) (Unit {0}) → Content → Content → Type 0
+ZeroesPiece l table piece layer host faults turn d e =
+    WritesThen l layer host (piece_sector (header_kept layer) table piece) faults (replicate (piece_size (header_kept layer)) 0) (stage_behind (header_kept layer) table piece) turn d e
+
+abbrev pub WritesEntries : Linking → ℕ → Layer → ℕ → ℕ → Turn Linking (Unit {0}) (Unit {0}) → Content → Content → Type 0
+WritesEntries l table layer host faults turn d e =
+    WritesThen l layer host (entries_sector (header_kept layer) (group_of l) table) faults (laid (to_of l) (64 * group_of l) 64 (replicate 512 0)) (Filled table) turn d e
+
+abbrev pub SyncsTable : Linking → ℕ → Layer → ℕ → ℕ → Turn Linking (Unit {0}) (Unit {0}) → Content → Content → Type 0
+SyncsTable l table layer host faults turn d e = SyncsThen layer host faults (More (at_stage l (Synced table))) turn d e
+
+-- the sector that makes all entries at once, and its sync
+abbrev pub WritesLaid : Linking → ℕ → List ℕ → Layer → ℕ → ℕ → Turn Linking (Unit {0}) (Unit {0}) → Content → Content → Type 0
+WritesLaid l at sector layer host faults turn d e = WritesThen l layer host (at / 512) faults sector Entered turn d e
+
+abbrev pub SyncsEntered : Layer → ℕ → ℕ → Turn Linking (Unit {0}) (Unit {0}) → Content → Content → Type 0
+SyncsEntered layer host faults turn d e = SyncsThen layer host faults (Done tt) turn d e
+
 -- The call of a step, by its stage, whatever stands in the file: some answer that fits the call, and the turn that follows
 -- from it.
 abbrev pub CallOf : Stage → Linking → Layer → ℕ → ℕ → Turn Linking (Unit {0}) (Unit {0}) → Content → Content → Type 0
 CallOf Begun l layer host faults turn d e = FindsTable l layer host faults turn d e
 CallOf (Found table) l layer host faults turn d e = LaysEntries l table layer host faults turn d e
-CallOf (Filling table piece) l layer host faults turn d e =
-    WritesThen l layer host (piece_sector (header_kept layer) table piece) faults (replicate (piece_size (header_kept layer)) 0) (stage_behind (header_kept layer) table piece) turn d e
-CallOf (Zeroed table) l layer host faults turn d e =
-    WritesThen l layer host (entries_sector (header_kept layer) (group_of l) table) faults (laid (to_of l) (64 * group_of l) 64 (replicate 512 0)) (Filled table) turn d e
-CallOf (Filled table) l layer host faults turn d e = SyncsThen layer host faults (More (at_stage l (Synced table))) turn d e
+CallOf (Filling table piece) l layer host faults turn d e = ZeroesPiece l table piece layer host faults turn d e
+CallOf (Zeroed table) l layer host faults turn d e = WritesEntries l table layer host faults turn d e
+CallOf (Filled table) l layer host faults turn d e = SyncsTable l table layer host faults turn d e
 CallOf (Synced table) l layer host faults turn d e = LaysTable l table layer host faults turn d e
-CallOf (Laid at sector) l layer host faults turn d e = WritesThen l layer host (at / 512) faults sector Entered turn d e
-CallOf Entered l layer host faults turn d e = SyncsThen layer host faults (Done tt) turn d e
+CallOf (Laid at sector) l layer host faults turn d e = WritesLaid l at sector layer host faults turn d e
+CallOf Entered l layer host faults turn d e = SyncsEntered layer host faults turn d e

@@ -1,5 +1,5 @@
 -- What a linking knows between its steps, and what each step leaves on each outcome of the layer's file.
-use Rattle.std.specs.Prelude.{◌≡◌, ◌≢◌, ◌⊎◌, ℕ, ◌+◌, ◌*◌, ◌/◌, ◌^◌, ◌<◌, ◌≤◌, List, length, replicate, Option, Some, None, Ok}
+use Rattle.std.specs.Prelude.{◌≡◌, ◌≢◌, ◌⊎◌, ℕ, ◌+◌, ◌*◌, ◌/◌, ◌%◌, ◌^◌, ◌<◌, ◌≤◌, List, length, replicate, Option, Some, None, Ok}
 use Rattle.sd_names.specs.declared.place.Dir.{Dir}
 use Rattle.sd_names.specs.declared.place.Place.{Place}
 use Rattle.sd_names.specs.declared.turn.Turn.{Turn}
@@ -13,7 +13,7 @@ use Rattle.image_model.specs.File.{file_of}
 use Rattle.image_model.specs.Layer.{Tables, l1_entry}
 use Rattle.layer_laws.specs.Laws as laws
 use Rattle.layer_laws.specs.Laws.{SameContent, SameOutside}
-use Rattle.link_laws.specs.Links.{AreLinks, IsFilled, IsNewTable, Linked, no_table, one_table, row_of, sector_at}
+use Rattle.link_laws.specs.Links.{AreLinks, IsFilled, IsNewTable, Linked, no_table, one_table, row_of}
 use Rattle.layer_writing.specs.Holding.{IsBetween, on_medium, with_sector}
 use Rattle.layer_writing.specs.Writer.{KnowsWriter}
 use Rattle.qcow_layer.specs.Looking.{IsFault}
@@ -91,7 +91,7 @@ SeesZeros host table count f = (k : ℕ) → table / 512 ≤ k → k < table / 5
 -- the table with its entries, in these sectors
 abbrev pub IsTable : Layer → Linking → ℕ → (ℕ → List ℕ) → Type 0
 IsTable layer l table sectors =
-    IsFilled (to_of l) (64 * group_of l) (sector_at (laws.layer (header_kept layer) (file_of 0 sectors)) table (group_of l)) table (cluster_of layer) sectors
+    IsFilled (to_of l) (64 * group_of l) ((table + 8 * (64 * group_of l % (cluster_of layer / 8))) / 512) table (cluster_of layer) sectors
 
 -- the file is there, being filled, and this holds of it
 pub record Fills (layer : Layer) (l : Linking) (table host : ℕ) (start : File) (d : Content) (P : File → Type 0) : Type 0 where

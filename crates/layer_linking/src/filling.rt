@@ -1,11 +1,10 @@
 // A new L2 table: zeros, then its entries, then a sync.
-ghost use Rattle.std.specs.Prelude.{◌≡◌, ◌+◌, ◌-◌, ◌*◌, ◌/◌, ◌%◌, ◌^◌, ◌≤◌, ◌<◌, replicate};
-ghost use Rattle.sd_names.specs.declared.turn.Turn.TheVariants.{More};
+ghost use Rattle.std.specs.Prelude.{◌≡◌, ◌+◌, ◌-◌, ◌%◌, ◌≤◌};
 ghost use Rattle.shared_disk.specs.Calls.{Told};
 ghost use Rattle.shared_disk.specs.Step.{EndsOnlyBy, IsDiskRefusal, NearsEnd, StepCounts};
-ghost use Rattle.link_laws.specs.Links.{laid};
 ghost use Rattle.qcow_layer.specs.Opening.{header_kept};
-ghost use Rattle.layer_linking.specs.Calls.{IsSameLinking, SyncsThen, WritesThen, at_stage, entries_sector, group_of, piece_sector, piece_size, pieces, stage_behind, steps_left, to_of};
+ghost use Rattle.layer_linking.specs.Calls.{IsSameLinking, SyncsTable, WritesEntries, ZeroesPiece};
+ghost use Rattle.layer_linking.specs.Calls.{piece_size, pieces, stage_behind, steps_left};
 
 use crate::linking::{Linking, Stage};
 use crate::reading::entries_sector_of;
@@ -55,7 +54,7 @@ pub(crate) fn zero_piece<D: SharedDisk>(
     ensures counts { StepCounts (D.faults disk.old) (D.faults disk.new) (D.calls disk.old) (D.calls disk.new) result }
     ensures refusals { EndsOnlyBy IsDiskRefusal result }
     ensures keeps { NearsEnd (IsSameLinking linking) (steps_left layer.now) (6 + (pieces (header_kept layer.now) - 1 - piece)) result }
-    ensures content { Told (D.content disk.old) (D.content disk.new) (WritesThen linking layer.now host (piece_sector (header_kept layer.now) table piece) (D.faults disk.new) (replicate (piece_size (header_kept layer.now)) 0) (stage_behind (header_kept layer.now) table piece) result) }
+    ensures content { Told (D.content disk.old) (D.content disk.new) (ZeroesPiece linking table piece layer.now host (D.faults disk.new) result) }
 {
     let size = piece_bytes(layer.header());
     let zeros = [0; LONGEST];
@@ -81,7 +80,7 @@ pub(crate) fn write_entries<D: SharedDisk>(
     ensures counts { StepCounts (D.faults disk.old) (D.faults disk.new) (D.calls disk.old) (D.calls disk.new) result }
     ensures refusals { EndsOnlyBy IsDiskRefusal result }
     ensures keeps { NearsEnd (IsSameLinking linking) (steps_left layer.now) 5 result }
-    ensures content { Told (D.content disk.old) (D.content disk.new) (WritesThen linking layer.now host (entries_sector (header_kept layer.now) (group_of linking) table) (D.faults disk.new) (laid (to_of linking) (64 * group_of linking) 64 (replicate 512 0)) (Stage.Filled table) result) }
+    ensures content { Told (D.content disk.old) (D.content disk.new) (WritesEntries linking table layer.now host (D.faults disk.new) result) }
 {
     let at = 512 * entries_sector_of(layer.header(), linking.links.group(), table);
     let sector = linking.links.lay([0; 512]);
@@ -106,7 +105,7 @@ pub(crate) fn sync_table<D: SharedDisk>(
     ensures counts { StepCounts (D.faults disk.old) (D.faults disk.new) (D.calls disk.old) (D.calls disk.new) result }
     ensures refusals { EndsOnlyBy IsDiskRefusal result }
     ensures keeps { NearsEnd (IsSameLinking linking) (steps_left layer.now) 4 result }
-    ensures content { Told (D.content disk.old) (D.content disk.new) (SyncsThen layer.now host (D.faults disk.new) (More (at_stage linking (Stage.Synced table))) result) }
+    ensures content { Told (D.content disk.old) (D.content disk.new) (SyncsTable linking table layer.now host (D.faults disk.new) result) }
 {
     match disk.sync(host, layer.place()) {
         Err(answer) => Turn::Ended((), refusal_for(answer, disk)),

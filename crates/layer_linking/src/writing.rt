@@ -1,9 +1,7 @@
 // The sector that makes all the entries at once.
-ghost use Rattle.std.specs.Prelude.{◌≡◌, ◌/◌};
-ghost use Rattle.sd_names.specs.declared.turn.Turn.TheVariants.{Done};
 ghost use Rattle.shared_disk.specs.Calls.{Told};
 ghost use Rattle.shared_disk.specs.Step.{EndsOnlyBy, IsDiskRefusal, IsLast, NearsEnd, StepCounts};
-ghost use Rattle.layer_linking.specs.Calls.{IsSameLinking, SyncsThen, WritesThen, steps_left};
+ghost use Rattle.layer_linking.specs.Calls.{IsSameLinking, SyncsEntered, WritesLaid, steps_left};
 
 use crate::linking::{Linking, Stage};
 use qcow_layer::Layer;
@@ -22,7 +20,7 @@ pub(crate) fn write_laid<D: SharedDisk>(
     ensures counts { StepCounts (D.faults disk.old) (D.faults disk.new) (D.calls disk.old) (D.calls disk.new) result }
     ensures refusals { EndsOnlyBy IsDiskRefusal result }
     ensures keeps { NearsEnd (IsSameLinking linking) (steps_left layer.now) 2 result }
-    ensures content { Told (D.content disk.old) (D.content disk.new) (WritesThen linking layer.now host (at / 512) (D.faults disk.new) sector Stage.Entered result) }
+    ensures content { Told (D.content disk.old) (D.content disk.new) (WritesLaid linking at sector layer.now host (D.faults disk.new) result) }
 {
     match disk.write_at(host, layer.place(), at / 512 * 512, &sector) {
         Err(answer) => Turn::Ended((), refusal_for(answer, disk)),
@@ -43,7 +41,7 @@ pub(crate) fn sync_entered<D: SharedDisk>(
     ensures counts { StepCounts (D.faults disk.old) (D.faults disk.new) (D.calls disk.old) (D.calls disk.new) result }
     ensures refusals { EndsOnlyBy IsDiskRefusal result }
     ensures last { IsLast result }
-    ensures content { Told (D.content disk.old) (D.content disk.new) (SyncsThen layer.now host (D.faults disk.new) (Done tt) result) }
+    ensures content { Told (D.content disk.old) (D.content disk.new) (SyncsEntered layer.now host (D.faults disk.new) result) }
 {
     match disk.sync(host, layer.place()) {
         Err(answer) => Turn::Ended((), refusal_for(answer, disk)),

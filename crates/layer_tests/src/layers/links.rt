@@ -1,5 +1,5 @@
-// Entries that are made in a table that is there, and in a new one, by a host that stops or meets a fault at each step; and
-// what is there once it went down.
+// Entries that are made in a table that is there, and in a new one, by a host that stops or meets a fault at each
+// step; and what is there once it went down.
 ghost use Rattle.std.specs.Prelude.{◌≤◌};
 
 use super::{FILE, disk_with, lay, lay_number, look, open_layer};
