@@ -85,7 +85,7 @@ module _ (sector : ℕ → List ℕ) where
 
 -- ---- the name
 
-id_again : (id : Id) → IsIdBytes id.0 → id_of (id_text id.0) ≡ Some id
+pub id_again : (id : Id) → IsIdBytes id.0 → id_of (id_text id.0) ≡ Some id
 unfolding id_of
 id_again id is =
     let long = id_text-length id.0 in
@@ -102,7 +102,7 @@ no_slash bytes k lt =
     let other : (get_or (id_text bytes) k 0 == 47) ≡ false = ne_eqb (get_or (id_text bytes) k 0) 47 (grind (arith, apart)) in
     ap not other
 
-text_whole : (bytes : List ℕ) → last_part (id_text bytes) ≡ id_text bytes
+pub text_whole : (bytes : List ℕ) → last_part (id_text bytes) ≡ id_text bytes
 text_whole bytes =
     let long = id_text-length bytes in
     sym (last_part_is (id_text bytes) 0 (omega arith) (λ k low lt. no_slash bytes k (omega (arith, lt, long))) (λ lt. absurd (omega (arith, lt))))

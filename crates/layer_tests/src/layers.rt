@@ -12,6 +12,7 @@ mod links;
 mod looks;
 mod opens;
 mod placed;
+mod rebasing;
 
 const VOLUME: Id = Id([0, 0, 0, 0, 0, 0, 0x40, 0, 0x80, 0, 0, 0, 0, 0, 1, 2]);
 

@@ -1,0 +1,12 @@
+pub mod Bytes
+pub mod Walks
+pub mod Changes
+pub mod Parts
+pub mod Writes
+pub mod Names
+pub mod Files
+pub mod Layers
+pub mod Outcomes
+pub mod Frames
+pub mod Quiet
+pub mod Steps

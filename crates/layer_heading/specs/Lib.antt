@@ -1,0 +1,3 @@
+pub mod Heads
+pub mod Rebased
+pub mod Rebasing
