@@ -1,25 +1,24 @@
 -- The header of a new layer, as it is read from the file.
-use Rattle.std.proofs.Common.{◌≡◌, ◌≢◌, ℕ, zero, suc, ◌+◌, ◌-◌, ◌*◌, ◌/◌, ◌%◌, ◌^◌, ◌<◌, ◌≤◌, Bool, true, false, List, [], ◌∷◌, ◌++◌, length, get_or, take, drop, replicate, Option, Some, None, Result, Ok, Err, refl, sym, ap, ◌∙◌, subst, arith, eqb, ne_eqb, nat_lt, nat_le}
-use Rattle.std.specs.Prelude.{◌==◌, ◌&&◌, not, if◌then◌else◌}
+use Rattle.std.proofs.Common.{◌≡◌, ℕ, zero, suc, ◌+◌, ◌-◌, ◌*◌, ◌/◌, ◌^◌, ◌<◌, ◌≤◌, true, false, List, ◌++◌, length, get_or, take, drop, replicate, Option, Some, None, Ok, refl, sym, ap, ◌∙◌, arith, eqb, ne_eqb, nat_lt, nat_le}
+use Rattle.std.specs.Prelude.{◌==◌, not, if◌then◌else◌}
 use Rattle.std.specs.List.{flat_map, range_with_len}
 use Rattle.std.specs.Option.{is_some, option_map}
 use Rattle.std.proofs.lemmas.Bool.Decides.{nat_tests}
-use Rattle.std.proofs.lemmas.List.{append_assoc, drop_at, length-append, length-drop, length-replicate, take_at, take_all}
+use Rattle.std.proofs.lemmas.List.{append_assoc, drop_at, length-append, take_at, take_all}
 use Rattle.uuid.specs.Text.{parsed, parsed_hyphenated}
 use Rattle.sd_names.specs.Id.{IsIdBytes, id_of, id_text}
 use Rattle.sd_names.specs.declared.id.Id.{Id}
 use Rattle.sd_names.proofs.IdLemmas.{id_text-apart, id_text-length, parsed_from_reads, reads_itself}
-use Rattle.qcow_format.specs.declared.header.Header.{Header}
 use Rattle.qcow_format.specs.Bytes.{put}
-use Rattle.qcow_format.specs.Header.{field_fault, has_aligned_tables, has_name, head_size, header_of, mapped}
-use Rattle.qcow_format.specs.Name.{backing_id, is_id, is_name, last_part, touches}
+use Rattle.qcow_format.specs.Header.{field_fault, has_name, head_size, header_of}
+use Rattle.qcow_format.specs.Name.{backing_id, is_id, last_part}
 use Rattle.qcow_format.specs.Written.{HasRoom, IsHeader, IsNew, written}
 use Rattle.qcow_format.proofs.NameLemmas.{last_part_is}
 use Rattle.qcow_format.proofs.New.{new_header_again}
 use Rattle.shared_disk.specs.Content.{zero_sector}
 use Rattle.image_model.specs.File.{File, file_of, sector_in}
 use Rattle.image_model.specs.Soundness.{layer_header, layer_header_of}
-use Rattle.layer_creating.specs.New.{HasBytes, IsCapacity, beginning, header_sector, l1_size_for, name_sector, new_header, new_sector, parent_of}
+use Rattle.layer_creating.specs.New.{HasBytes, header_sector, l1_size_for, name_sector, new_header, new_sector, parent_of}
 use Rattle.layer_creating.proofs.Lengths.{sector_long}
 use Rattle.layer_creating.specs.declared.backing.Backing.{Backing}
 

@@ -1,18 +1,15 @@
 -- A new layer's file is sound, position by position.
-use Rattle.std.proofs.Common.{◌≡◌, ◌≢◌, ◌⊎◌, inl, inr, ℕ, zero, suc, ◌+◌, ◌-◌, ◌*◌, ◌/◌, ◌%◌, ◌^◌, ◌<◌, ◌≤◌, max, Bool, true, false, List, Option, Some, None, Result, Ok, Err, unwrap_or, refl, sym, ap, ◌∙◌, subst, arith, ne_eqb, nat_lt, nat_le}
+use Rattle.std.proofs.Common.{◌≡◌, ◌≢◌, ◌⊎◌, inl, inr, ℕ, zero, suc, ◌+◌, ◌-◌, ◌*◌, ◌/◌, ◌%◌, ◌^◌, ◌<◌, ◌≤◌, Bool, true, false, Option, Some, None, Ok, unwrap_or, refl, sym, ap, ◌∙◌, arith, ne_eqb, nat_lt, nat_le}
 use Rattle.std.specs.Prelude.{◌==◌, ◌&&◌, ◌||◌, not, if◌then◌else◌}
 use Rattle.std.proofs.lemmas.Bool.Decides.{nat_tests}
 use Rattle.std.proofs.lemmas.Bool.{cases_lt}
-use Rattle.sd_names.specs.declared.fault.LayerFault.{LayerFault}
 use Rattle.sd_names.specs.declared.fault.LayerFault.TheVariants.{MixedBits}
-use Rattle.qcow_format.specs.declared.header.Header.{Header}
-use Rattle.qcow_format.specs.declared.entry.Entry.{Entry}
 use Rattle.qcow_format.specs.declared.entry.Entry.TheVariants.{Absent}
 use Rattle.qcow_format.specs.Entry.{table_in}
 use Rattle.image_model.specs.File.{File, file_of}
-use Rattle.image_model.specs.Layer.{Tables, block_at, block_place, block_span, block_word, cluster_size, count_of, entries, entry_at, entry_behind, is_used, l1_at, l1_clusters, l1_entry}
-use Rattle.image_model.specs.Soundness.{IsClean, Item, NamedBefore, block_item, faulty, item, placed, l1_item_of, l2_item, mapping_item, named_by, names, nothing, outside, own_fault}
-use Rattle.layer_laws.specs.Laws.{block_position, l1_position, layer}
+use Rattle.image_model.specs.Layer.{Tables, block_at, block_place, block_word, count_of, entry_at, entry_behind, is_used, l1_at, l1_clusters, l1_entry}
+use Rattle.image_model.specs.Soundness.{IsClean, Item, block_item, faulty, item, placed, l1_item_of, l2_item, mapping_item, named_by, names, nothing, own_fault}
+use Rattle.layer_laws.specs.Laws.{layer}
 use Rattle.layer_laws.proofs.Items.{Part, part_of, header, l1_cluster, table_cluster, block, mapping}
 use Rattle.layer_laws.proofs.Places.{item_block, item_header, item_l1_cluster, item_mapping, item_table_cluster}
 use Rattle.layer_creating.specs.New.{is_used_new, l1_size_for, new_header, new_sector}

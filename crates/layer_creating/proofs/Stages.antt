@@ -1,13 +1,12 @@
 -- The writes of each stage.
-use Rattle.std.proofs.Common.{◌≡◌, ℕ, ◌/◌, ◌<◌, ◌≤◌, length, List, Option, Some, None, refl, sym, ap, ◌∙◌, subst, arith}
-use Rattle.sd_names.specs.declared.turn.Turn.{Turn}
+use Rattle.std.proofs.Common.{◌≡◌, ℕ, ◌/◌, ◌<◌, ◌≤◌, length, Some, None, sym, ap, ◌∙◌, subst, arith}
 use Rattle.shared_disk.specs.Content.{Content}
 use Rattle.layer_creating.specs.New.{block_sector, header_sector, name_sector, new_sector, table_sector}
-use Rattle.layer_creating.specs.Creating.{Knows, KnowsFile, KnowsIn, Makes, WritesHeader, WritesNext, WritesSector, backing_of, capacity_of, length_of, made_of, so_far, with_sector}
+use Rattle.layer_creating.specs.Creating.{Knows, KnowsFile, KnowsIn, Makes, WritesHeader, WritesSector, backing_of, capacity_of, length_of, made_of, so_far, with_sector}
 use Rattle.layer_creating.specs.declared.backing.Backing.{Backing}
 use Rattle.layer_creating.specs.declared.creating.Creating.{Creating}
 use Rattle.layer_creating.specs.declared.creating.Made.{Made}
-use Rattle.layer_creating.specs.declared.creating.Made.TheVariants.{Begun, Created, Counted, Tabled, Named, Headed}
+use Rattle.layer_creating.specs.declared.creating.Made.TheVariants.{Created, Counted, Tabled, Named, Headed}
 use Rattle.layer_creating.proofs.Lengths.{block_long, header_long, name_long, table_long}
 use Rattle.layer_creating.proofs.Steps.{Making, write_step, adds_header_alone, adds_header_named}
 

@@ -1,30 +1,22 @@
 -- What each step of a making leaves, from what its call left.
-use Rattle.std.proofs.Common.{◌≡◌, ◌≢◌, ◌⊎◌, inl, inr, eq-eqb, ne_eqb, eqb-true, ℕ, zero, suc, ◌+◌, ◌-◌, ◌*◌, ◌/◌, ◌%◌, ◌<◌, ◌≤◌, Bool, true, false, List, [], ◌++◌, length, replicate, take, drop, Option, Some, None, Result, Ok, Err, unwrap_or, refl, sym, ap, ◌∙◌, subst, arith}
+use Rattle.std.proofs.Common.{◌≡◌, ◌≢◌, ◌⊎◌, inl, inr, eq-eqb, eqb-true, ℕ, ◌+◌, ◌-◌, ◌/◌, ◌<◌, ◌≤◌, Bool, true, false, List, length, Option, Some, None, Ok, Err, unwrap_or, refl, sym, ap, ◌∙◌, subst, arith}
 use Rattle.std.specs.Prelude.{◌==◌, if◌then◌else◌}
 use Rattle.std.proofs.lemmas.Bool.{false≢true}
-use Rattle.std.proofs.lemmas.List.{length-replicate, take_all}
+use Rattle.std.proofs.lemmas.List.{take_all}
 use Rattle.sd_names.specs.Turn.{MatchTurn}
-use Rattle.sd_names.specs.declared.absence.Absence.TheVariants as absence
 use Rattle.sd_names.specs.declared.place.Place.{Place}
 use Rattle.sd_names.specs.declared.refusal.Refusal.{Refusal}
-use Rattle.sd_names.specs.declared.refusal.Refusal.TheVariants.{DiskFault, Vanished}
+use Rattle.sd_names.specs.declared.refusal.Refusal.TheVariants.{DiskFault}
 use Rattle.sd_names.specs.declared.turn.Turn.{Turn}
 use Rattle.sd_names.specs.declared.turn.Turn.TheVariants.{More, Done, Ended}
-use Rattle.shared_disk.specs.Calls.{Creates, IsCreated, IsPut, IsSame, Syncs, WriteAt, created, sectors_in, synced, wrote}
-use Rattle.shared_disk.specs.Content.{Content, File, Loose, own_of, sector_of, seen, unless_by, without, writes, zero_sector}
-use Rattle.shared_disk.specs.Step.{GoesOn, TurnFollows}
-use Rattle.shared_disk.specs.declared.disk.DiskAnswer.{DiskAnswer}
+use Rattle.shared_disk.specs.Calls.{IsPut, IsSame, created, sectors_in, synced, wrote}
+use Rattle.shared_disk.specs.Content.{Content, File, sector_of, seen, unless_by, zero_sector}
+use Rattle.shared_disk.specs.Step.{GoesOn}
 use Rattle.shared_disk.specs.declared.disk.DiskAnswer.TheVariants.{NoFile, Exists, OutOfFile, NotEmpty, Failed}
 use Rattle.shared_disk.proofs.AtPlace.{no_file, one_file}
 use Rattle.shared_disk.proofs.OwnWrites.{own_outside, own_within, without_writes}
-use Rattle.sd_names.specs.Id.{id_text}
-use Rattle.sd_names.proofs.IdLemmas.{id_text-length}
-use Rattle.qcow_format.specs.Bytes.{bytes_of}
-use Rattle.qcow_format.specs.Written.{format_bytes, put_fields}
-use Rattle.qcow_format.proofs.Again.{length-put_fields}
-use Rattle.qcow_format.proofs.Put.{length-format_bytes, length-put}
-use Rattle.layer_creating.specs.New.{IsNewLayer, beginning, block_sector, header_sector, name_sector, new_header, new_sector, table_sector}
-use Rattle.layer_creating.specs.Creating.{CreatesFile, IsBarred, IsCause, IsIn, IsLeft, IsMade, IsSameMaking, IsUnfinished, IsWritten, Knows, KnowsFile, KnowsIn, LeadsTo, Makes, SyncsFile, WritesHeader, WritesSector, backing_of, capacity_of, length_of, made_of, place_of, so_far, tabled, with_sector}
+use Rattle.layer_creating.specs.New.{IsNewLayer, header_sector, new_sector}
+use Rattle.layer_creating.specs.Creating.{CreatesFile, IsBarred, IsCause, IsIn, IsLeft, IsMade, IsUnfinished, IsWritten, Knows, KnowsFile, KnowsIn, Makes, SyncsFile, WritesSector, backing_of, capacity_of, length_of, made_of, place_of, so_far, tabled, with_sector}
 use Rattle.layer_creating.specs.declared.backing.Backing.{Backing}
 use Rattle.layer_creating.specs.declared.creating.Creating.{Creating}
 use Rattle.layer_creating.specs.declared.creating.Made.{Made}

@@ -1,6 +1,6 @@
 -- A layer as this store makes it: version 3, clusters of 65,536 bytes, no features. What its header says (qcow2
 -- specification, "Header"), and the sectors of its file.
-use Rattle.std.specs.Prelude.{◌≡◌, ℕ, ◌+◌, ◌*◌, ◌/◌, ◌%◌, ◌^◌, ◌==◌, ◌<◌, ◌≤◌, ◌||◌, max, nat_lt, Bool, if◌then◌else◌, List, ◌++◌, replicate, Option, Some, None, IfSome}
+use Rattle.std.specs.Prelude.{◌≡◌, ℕ, ◌+◌, ◌/◌, ◌%◌, ◌^◌, ◌==◌, ◌≤◌, ◌||◌, max, nat_lt, Bool, if◌then◌else◌, List, ◌++◌, Option, Some, None, IfSome}
 use Rattle.std.specs.Option.{option_map}
 use Rattle.sd_names.specs.Id.{IsIdBytes, id_text}
 use Rattle.sd_names.specs.declared.id.Id.{Id}

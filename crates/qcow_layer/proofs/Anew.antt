@@ -1,5 +1,5 @@
 -- The layer of a file that was made anew.
-use Rattle.std.proofs.Common.{◌≡◌, ℕ, ◌+◌, ◌*◌, ◌/◌, ◌%◌, ◌^◌, ◌<◌, ◌≤◌, max, Bool, List, Option, Some, Ok, refl, sym, ap, ◌∙◌, subst, arith}
+use Rattle.std.proofs.Common.{◌≡◌, ℕ, ◌*◌, ◌/◌, ◌^◌, ◌≤◌, max, List, Option, Some, Ok, sym, ap, ◌∙◌, subst, arith}
 use Rattle.std.specs.Prelude.{not}
 use Rattle.sd_names.specs.declared.id.Id.{Id}
 use Rattle.sd_names.specs.declared.place.Place.{Place}
@@ -8,16 +8,15 @@ use Rattle.shared_disk.proofs.Outcomes.{settled_file}
 use Rattle.qcow_format.specs.declared.header.Header.{Header}
 use Rattle.qcow_format.specs.Name.{backing_id}
 use Rattle.image_model.specs.File.{file_of}
-use Rattle.image_model.specs.File as image
 use Rattle.image_model.specs.Layer.{is_used}
 use Rattle.image_model.specs.Soundness.{IsSound, layer_header}
 use Rattle.layer_walk.specs.Marks.{map_size}
-use Rattle.layer_creating.specs.New.{IsCapacity, IsLength, IsNewLayer, is_used_new, new_header, new_sector, parent_of}
+use Rattle.layer_creating.specs.New.{IsCapacity, IsLength, IsNewLayer, new_sector}
 use Rattle.layer_creating.specs.Says.{SaysNew}
 use Rattle.layer_creating.specs.declared.backing.Backing.{Backing}
 use Rattle.layer_creating.proofs.New.{new_layer_says}
 use Rattle.qcow_layer.specs.Fresh.{IsFresh}
-use Rattle.qcow_layer.specs.Knowing.{KnowsLayer, KnowsLayerOn, KnowsNumbers}
+use Rattle.qcow_layer.specs.Knowing.{KnowsLayerOn, KnowsNumbers}
 use Rattle.qcow_layer.specs.Stages.{roof}
 use Rattle.qcow_layer.specs.declared.layer.Layer.{Layer}
 use Rattle.qcow_layer.proofs.Knowing.{alone_settled, as_seen}

@@ -1,11 +1,9 @@
 -- Multiples that are taken out of a set.
-use Rattle.std.proofs.Common.{◌≡◌, ◌≢◌, ◌⊎◌, inl, inr, ℕ, ◌+◌, ◌-◌, ◌*◌, ◌/◌, ◌%◌, ◌<◌, ◌≤◌, Bool, true, false, eqb-true, ne_eqb, refl, sym, ap, ◌∙◌, arith, nat_lt}
-use Rattle.std.specs.Prelude.{◌==◌, ◌&&◌, ◌||◌, not}
+use Rattle.std.proofs.Common.{◌≡◌, ◌≢◌, ℕ, ◌+◌, ◌*◌, ◌/◌, ◌%◌, ◌<◌, Bool, true, false, eqb-true, refl, sym, ap, ◌∙◌, arith, nat_lt}
+use Rattle.std.specs.Prelude.{◌==◌, ◌&&◌, not}
 use Rattle.std.proofs.Math.Nat.{div-add-mod, mul_comm}
-use Rattle.std.proofs.lemmas.Bool.{cases_lt, false≢true}
 use Rattle.std.proofs.lemmas.Bool.Decides.{nat_tests}
 use Rattle.std.proofs.lemmas.Nat.{div-mul-add, mod-mul-add}
-use Rattle.layer_creating.specs.New.{is_used_new}
 
 abbrev pub is_out : ℕ → ℕ → ℕ → Bool
 is_out of count c = c % of == 0 && nat_lt (c / of) count
@@ -52,23 +50,3 @@ gone had of k c now is out = is ∙ sym (ap (λ b. had && not b) out ∙ and_fal
     and_false : (b : Bool) → (b && false) ≡ false
     and_false true = refl
     and_false false = refl
-
--- ---- the map of a new layer
-
--- the numbers that are left of all those below a bound
-pub left_of_all : (c room ranges : ℕ) → c < room → room ≤ 32_768 * ranges → (not (is_out 1 4 c) && not (is_out 32_768 ranges c)) ≡ not (is_used_new c)
-left_of_all c room ranges lt le =
-    let first : is_out 1 4 c ≡ nat_lt c 4 = one c in
-    let inside : nat_lt (c / 32_768) ranges ≡ true = let small : c / 32_768 < ranges = omega (arith, lt, le) in grind (arith, nat_tests) in
-    ap (λ b. not b && not (is_out 32_768 ranges c)) first ∙ ap (λ b. not (nat_lt c 4) && not (c % 32_768 == 0 && b)) inside ∙ morgan (nat_lt c 4) (c % 32_768 == 0)
-  where
-    one : (c : ℕ) → is_out 1 4 c ≡ nat_lt c 4
-    one c =
-        let a : c % 1 ≡ 0 = omega arith in
-        let b : c / 1 ≡ c = omega arith in
-        ap (λ n. n == 0 && nat_lt (c / 1) 4) a ∙ ap (λ n. nat_lt n 4) b
-
-    morgan : (a b : Bool) → (not a && not (b && true)) ≡ not (a || b)
-    morgan true b = refl
-    morgan false true = refl
-    morgan false false = refl

@@ -16,6 +16,7 @@ use std::alloc::Global;
 
 /// The clusters of a new layer, in bytes, and how many of them a block counts.
 const CLUSTER: u64 = 65_536;
+
 const RANGE: u64 = 32_768;
 
 /// How many clusters the header and the tables of a new layer take.

@@ -1,4 +1,4 @@
-use Rattle.std.proofs.Common.{◌≡◌, List, ℕ, ◌∙◌, replicate, ap, sym, subst}
+use Rattle.std.proofs.Common.{◌∙◌, replicate, ap, sym, subst}
 use Rattle.qcow_format.specs.declared.header.Header.{Header}
 use Rattle.qcow_format.specs.Written.{HasRoom, written}
 use Rattle.shared_disk.specs.Content.{zero_sector}
