@@ -1,6 +1,8 @@
-//! Tests of what the records of an image's volumes say, as tables.
+//! Tests of an image's volumes, as tables: of their records, and of their files over disks in memory.
 #![tactic(auto)]
 
+#[cfg(test)]
+mod gathering;
 #[cfg(test)]
 mod images;
 #[cfg(test)]

@@ -1,0 +1,11 @@
+pub mod Texts
+pub mod Orders
+pub mod Lists
+pub mod Alike
+pub mod Listing
+pub mod Reading
+pub mod Steps
+pub mod Costs
+pub mod Missing
+pub mod Survival
+pub mod Fewer

@@ -1,0 +1,19 @@
+use Rattle.std.proofs.Common.{ℕ, Option, refl, sym, subst, arith}
+use Rattle.sd_names.specs.declared.place.Name.{Name}
+use Rattle.chain_gathering.specs.Stages.{after_sync}
+use Rattle.chain_gathering.specs.Steps.{IsNearer}
+use Rattle.chain_gathering.specs.declared.gathering.Gathering.{Gathering}
+use Rattle.chain_gathering.specs.declared.names.VolumeName.{VolumeName}
+use Rattle.chain_gathering.specs.declared.names.VolumeName.TheVariants.{Data, Text}
+use Rattle.chain_gathering.specs.declared.stages.Seen.{Seen}
+use Rattle.chain_gathering.specs.declared.stages.Stage.TheVariants.{Syncing}
+use Rattle.chain_gathering.proofs.Lists.{noted_length}
+use Rattle.chain_gathering.proofs.gathering.Gathering.sync.Goals as goal
+
+nearer : (cost : Option Name → ℕ) (g : Gathering) (seen : Seen) (o : VolumeName) → IsNearer cost g (Syncing seen o) (after_sync g seen o)
+nearer cost g seen (Data v) = record { target = refl; falls = λ paid. omega arith }
+nearer cost g seen (Text v) = record { target = refl; falls = λ paid. omega (arith, noted_length g.kept.found v seen.file) }
+
+pub returns-in-Ok-clause-falls : goal.returns-in-Ok-clause-falls
+returns-in-Ok-clause-falls g c cost =
+    subst (λ (next : Gathering). IsNearer cost c.args.self (Syncing c.args.seen c.args.file) next) (sym c.synced.ensures) (nearer cost c.args.self c.args.seen c.args.file)

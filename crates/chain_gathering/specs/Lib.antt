@@ -1,0 +1,6 @@
+pub mod Names
+pub mod Kept
+pub mod Stages
+pub mod Knowing
+pub mod Steps
+pub mod Gathering
