@@ -148,3 +148,20 @@ noted_length ws v last = go (nat_lt (length ws) 32)
     go : (t : Bool) → length (if t then ws ++ record { id = v; has_file = is_last last v } ∷ [] else ws) ≤ length ws + 1
     go true = omega (arith, length-append ws (record { id = v; has_file = is_last last v } ∷ []))
     go false = omega arith
+
+-- a volume more leaves those before it
+pub noted_front : (ws : List Found) (v : Id) (last : Option Id) (k : ℕ) → k ≤ length ws → take k (ids_found (noted ws v last)) ≡ take k (ids_found ws)
+noted_front ws v last k short = go (nat_lt (length ws) 32)
+  where
+    go : (t : Bool) → take k (ids_found (if t then ws ++ record { id = v; has_file = is_last last v } ∷ [] else ws)) ≡ take k (ids_found ws)
+    go true =
+        ap (take k) (map-append (λ (x : Found). x.id) ws (record { id = v; has_file = is_last last v } ∷ []))
+        ∙ take-append-le k (ids_found ws) (v ∷ []) (omega (arith, short, length_ids ws))
+    go false = refl
+
+pub noted_longer : (ws : List Found) (v : Id) (last : Option Id) → length ws ≤ length (noted ws v last)
+noted_longer ws v last = go (nat_lt (length ws) 32)
+  where
+    go : (t : Bool) → length ws ≤ length (if t then ws ++ record { id = v; has_file = is_last last v } ∷ [] else ws)
+    go true = omega (arith, length-append ws (record { id = v; has_file = is_last last v } ∷ []))
+    go false = omega arith

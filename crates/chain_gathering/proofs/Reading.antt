@@ -35,7 +35,9 @@ use Rattle.chain_gathering.specs.declared.gathered.Gathered.{Gathered}
 use Rattle.chain_gathering.specs.declared.names.VolumeName.TheVariants.{Text}
 use Rattle.chain_gathering.specs.declared.records.Volume.{Volume}
 use Rattle.chain_gathering.specs.declared.stages.Target.{Target}
-use Rattle.chain_gathering.proofs.Lists.{IsSplit, length_ids, mapped_in, none_next, snoc_cases, split_next}
+use Rattle.chain_gathering.proofs.Lists.{IsSplit, length_ids, mapped_in, none_next, noted_front, noted_longer, snoc_cases, split_next}
+use Rattle.chain_gathering.specs.Kept.{noted}
+use Rattle.chain_gathering.specs.Steps.{AreOfFound}
 
 -- ---- the first checks
 
@@ -163,20 +165,40 @@ short_next zero (w ∷ ws) v e = omega arith
 short_next (suc k) [] v e = absurd cc
 short_next (suc k) (w ∷ ws) v e = omega (arith, short_next k ws v e)
 
+-- ---- records and the volumes that were found, on every disk
+
+pub found_on : (kept : Gathered) (v : Id) (last : Option Id) → AreOfFound kept → AreOfFound (record { found = noted kept.found v last; records = kept.records })
+found_on kept v last are = record {
+  short = omega (arith, are.short, noted_longer kept.found v last);
+  order = are.order ∙ sym (noted_front kept.found v last (length kept.records) are.short);
+}
+
+pub kept_on : (kept : Gathered) (v : Id) (r : VolumeRecord) → next_of kept ≡ Some v → AreOfFound kept → AreOfFound (kept_with kept v r)
+kept_on kept v r next are =
+    let more : length (kept.records ++ record { id = v; meta = r; has_file = next_has_file kept } ∷ []) ≡ suc (length kept.records) =
+    omega (arith, length-append kept.records (record { id = v; meta = r; has_file = next_has_file kept } ∷ [])) in
+    record {
+      short = omega (arith, more, short_next (length kept.records) kept.found v next);
+      order = ids_snoc kept.records (record { id = v; meta = r; has_file = next_has_file kept }) ∙ ap (λ (vs : List Id). vs ++ v ∷ []) are.order
+          ∙ sym (next_split kept v next).next ∙ ap (λ (n : ℕ). take n (ids_found kept.found)) (sym more);
+    }
+
+pub kept_whole : (kept : Gathered) → next_of kept ≡ None → AreOfFound kept → ids_of kept.records ≡ ids_found kept.found
+kept_whole kept none are =
+    are.order ∙ take_all (length kept.records) (ids_found kept.found) (omega (arith, length_ids kept.found, none_next kept.found (length kept.records) none))
+
 -- one record more
 pub read_on : (t : Target) (kept : Gathered) (v : Id) (r : VolumeRecord) (d : Content) → IsRead t kept d → next_of kept ≡ Some v
     → text_of (image_in t) (volumes_in (dir_in t) d) v ≡ Some (Ok r) → IsRead t (kept_with kept v r) d
 read_on t kept v r d is next well =
-    let more : length (kept.records ++ record { id = v; meta = r; has_file = next_has_file kept } ∷ []) ≡ suc (length kept.records) =
-    omega (arith, length-append kept.records (record { id = v; meta = r; has_file = next_has_file kept } ∷ [])) in
+    let on = kept_on kept v r next (record { short = is.short; order = is.order }) in
     record {
       settled = is.settled;
       are = is.are;
       few = is.few;
       files = is.files;
-      short = omega (arith, more, short_next (length kept.records) kept.found v next);
-      order = ids_snoc kept.records (record { id = v; meta = r; has_file = next_has_file kept }) ∙ ap (λ (vs : List Id). vs ++ v ∷ []) is.order
-          ∙ sym (next_split kept v next).next ∙ ap (λ (n : ℕ). take n (ids_found kept.found)) (sym more);
+      short = on.short;
+      order = on.order;
       texts = λ x h. said x (snoc_cases x (record { id = v; meta = r; has_file = next_has_file kept }) kept.records h);
       own = λ x h. file x (snoc_cases x (record { id = v; meta = r; has_file = next_has_file kept }) kept.records h);
     }
@@ -200,16 +222,15 @@ read_bad t kept v fault d is next bad =
 -- all texts were read
 pub read_all : (t : Target) (kept : Gathered) (d : Content) → IsRead t kept d → next_of kept ≡ None → IsGathered t kept d
 read_all t kept d is none =
-    let most : length (ids_found kept.found) ≤ length kept.records = omega (arith, length_ids kept.found, none_next kept.found (length kept.records) none) in
-    let whole : take (length kept.records) (ids_found kept.found) ≡ ids_found kept.found = take_all (length kept.records) (ids_found kept.found) most in
+    let whole = kept_whole kept none (record { short = is.short; order = is.order }) in
     record {
       settled = is.settled;
       are = is.are;
       few = is.few;
       files = is.files;
-      order = is.order ∙ whole;
+      order = whole;
       texts = is.texts;
       own = is.own;
       passed = are_passed (image_in t) (volumes_in (dir_in t) d) (ids_found kept.found) (few_ids kept is.few)
-          (λ v h. read_well t kept d is v (subst (λ (vs : List Id). Contains vs v) (sym whole) h));
+          (λ v h. read_well t kept d is v (subst (λ (vs : List Id). Contains vs v) (sym whole ∙ is.order) h));
     }

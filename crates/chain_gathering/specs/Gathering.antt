@@ -9,7 +9,7 @@ use Rattle.shared_disk.specs.Content.{Content}
 use Rattle.chain_model.specs.Records.{Image}
 use Rattle.chain_gathering.specs.Knowing.{IsGathered, KnowsFolder, KnowsStage}
 use Rattle.chain_gathering.specs.Stages.{GatheringTurn, dir_in, image_in}
-use Rattle.chain_gathering.specs.Steps.{IsGatheringRefusal, MeetsBy, NearsBy, left_of}
+use Rattle.chain_gathering.specs.Steps.{AreOfFound, IsGatheringRefusal, KeepsOrder, MeetsBy, NearsBy, left_of}
 use Rattle.chain_gathering.specs.declared.gathered.Gathered.{Gathered}
 use Rattle.chain_gathering.specs.declared.gathering.Gathering.{Gathering}
 use Rattle.chain_gathering.specs.declared.stages.Target.{Target}
@@ -48,9 +48,17 @@ MayRefuse g refusal = IsGatheringRefusal g.kept g.stage refusal
 abbrev pub Nears : Gathering → GatheringTurn → Type 0
 Nears g turn = NearsBy g g.stage turn
 
+-- the records that a gathering keeps are those of the volumes that it found first
+abbrev pub IsInOrder : Gathering → Type 0
+IsInOrder g = AreOfFound g.kept
+
+abbrev pub StaysInOrder : Gathering → GatheringTurn → Type 0
+StaysInOrder g turn = KeepsOrder g.kept turn
+
 -- a gathering that was begun: it knows each folder that a host knows
 pub record IsBegun (g : Gathering) (sd id : Id) (version : ℕ) : Type 0 where
   pub image : image g ≡ record { domain = sd; id = id; version = version }
   pub folder : folder g ≡ dir.Image sd id
   pub left : (cost : Option Name → ℕ) → steps_left cost g ≡ cost None + 2
+  pub order : IsInOrder g
   pub knows : (host : ℕ) (d : Content) → KnowsFolder (dir.Image sd id) host d → Knows g host d

@@ -1,5 +1,5 @@
 -- What a step of a gathering leaves.
-use Rattle.std.specs.Prelude.{◌≡◌, ◌⊎◌, ℕ, ◌+◌, ◌-◌, ◌<◌, ◌≤◌, false, length, Option, Some, None, Ok}
+use Rattle.std.specs.Prelude.{◌≡◌, ◌⊎◌, ℕ, ◌+◌, ◌-◌, ◌<◌, ◌≤◌, false, length, take, Option, Some, None, Ok}
 use Rattle.sd_names.specs.Place.{NameHasIds}
 use Rattle.sd_names.specs.Turn.{MatchTurn}
 use Rattle.sd_names.specs.declared.absence.Absence.TheVariants as absence
@@ -18,7 +18,7 @@ use Rattle.shared_disk.specs.NameCalls.{IsNameAbove, ShowsName, place_in}
 use Rattle.shared_disk.specs.Step.{IsDiskRefusal}
 use Rattle.volume_meta.specs.declared.record.VolumeRecord.{VolumeRecord}
 use Rattle.chain_model.specs.Records.{text_of}
-use Rattle.chain_gathering.specs.Kept.{next_of}
+use Rattle.chain_gathering.specs.Kept.{ids_found, ids_of, next_of}
 use Rattle.chain_gathering.specs.Knowing.{AreSettled, IsFirst, IsGathered, KnowsStage, volumes_in}
 use Rattle.chain_gathering.specs.Names.{name_of, price}
 use Rattle.chain_gathering.specs.Stages.{GatheringTurn, dir_in, image_in}
@@ -87,6 +87,18 @@ NearsBy g stage turn = (cost : Option Name → ℕ) → MatchTurn turn
     (IsNearer cost g stage)
     (λ _. 0 < left_of cost g.kept stage)
     (λ _ _. 0 < left_of cost g.kept stage)
+
+-- the records are those of the volumes that were found first, in their order
+pub record AreOfFound (kept : Gathered) : Type 0 where
+  pub short : length kept.records ≤ length kept.found
+  pub order : ids_of kept.records ≡ take (length kept.records) (ids_found kept.found)
+
+-- so they stay, and at the end each volume that was found has its record
+abbrev pub KeepsOrder : Gathered → GatheringTurn → Type 0
+KeepsOrder kept turn = MatchTurn turn
+    (λ next. AreOfFound kept → AreOfFound next.kept)
+    (λ gathered. AreOfFound kept → ids_of gathered.records ≡ ids_found gathered.found)
+    (λ _ _. Unit {0})
 
 -- ---- where the content is told
 

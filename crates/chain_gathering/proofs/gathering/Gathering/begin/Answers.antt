@@ -1,11 +1,18 @@
-use Rattle.std.proofs.Common.{length, refl, ap, arith}
+use Rattle.std.proofs.Common.{◌≡◌, List, [], length, take, refl, sym, ap, subst, arith}
+use Rattle.chain_gathering.specs.Kept.{ids_found, ids_of}
+use Rattle.chain_gathering.specs.declared.gathered.Gathered.{Gathered}
+use Rattle.chain_gathering.specs.declared.records.Volume.{Volume}
 use Rattle.chain_gathering.proofs.Listing.{knows_at_first}
 use Rattle.chain_gathering.proofs.gathering.Gathering.begin.Goals as goal
+
+ordered : (kept : Gathered) → kept.records ≡ [] → ids_of kept.records ≡ take (length kept.records) (ids_found kept.found)
+ordered kept none = subst (λ (xs : List Volume). ids_of xs ≡ take (length xs) (ids_found kept.found)) (sym none) refl
 
 pub returns-in-Ok : goal.returns-in-Ok
 returns-in-Ok c = record {
   image = refl;
   folder = refl;
   left = λ cost. omega (arith, ap length c.in-Ok.ensures.found);
+  order = record { short = omega (arith, ap length c.in-Ok.ensures.records); order = ordered c.in-Ok.kept c.in-Ok.ensures.records };
   knows = λ host d k. knows_at_first _ host c.in-Ok.kept d c.in-Ok.ensures.found c.in-Ok.ensures.records k;
 }

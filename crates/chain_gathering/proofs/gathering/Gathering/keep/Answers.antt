@@ -1,4 +1,4 @@
-use Rattle.std.proofs.Common.{◌≡◌, Result, Ok, Err, refl, sym, inl, inr}
+use Rattle.std.proofs.Common.{◌≡◌, Result, Ok, Err, refl, sym, subst, inl, inr}
 use Rattle.std.proofs.lemmas.Bool.{false≢true}
 use Rattle.kv_text.specs.Gives.{Gives}
 use Rattle.sd_names.specs.declared.fault.VolumeFault.{VolumeFault}
@@ -8,8 +8,9 @@ use Rattle.sd_names.specs.declared.refusal.Refusal.TheVariants.{OutOfMemory}
 use Rattle.sd_names.specs.declared.turn.Turn.TheVariants.{Ended}
 use Rattle.volume_meta.specs.declared.record.VolumeRecord.{VolumeRecord}
 use Rattle.chain_gathering.specs.Stages.{KeepsRecord}
+use Rattle.chain_gathering.specs.Steps.{AreOfFound}
 use Rattle.chain_gathering.specs.declared.gathering.Gathering.{Gathering}
-use Rattle.chain_gathering.proofs.Reading.{never_memory}
+use Rattle.chain_gathering.proofs.Reading.{kept_on, never_memory}
 use Rattle.chain_gathering.proofs.gathering.Gathering.keep.Goals as goal
 
 -- where there is no memory for a record, the text has no fault
@@ -21,3 +22,6 @@ no_room g v (Err f) never (inr none) = absurd (false≢true none.1)
 pub returns-in-Err-Memory-clause-turn : goal.returns-in-Err-Memory-clause-turn
 returns-in-Err-Memory-clause-turn c =
     rw c.in-Bytes.is (no_room c.args.self c.args.id _ (never_memory _ _ _ _) (rw c.in-Err-Memory.field-0-is at c.in-Err-Memory.ensures.read))
+
+pub returns-clause-order : goal.returns-clause-order
+returns-clause-order c are = subst AreOfFound (sym c.keep.ensures) (kept_on c.args.self.kept c.args.id c.in-Ok.record c.requires.next are)
