@@ -1,5 +1,5 @@
 // Removing a task's file.
-ghost use Rattle.std.specs.Prelude.{IfErr};
+ghost use Rattle.std.specs.Prelude.{◌≡◌, ◌+◌, ◌-◌, ◌^◌, min, IfErr};
 ghost use Rattle.shared_disk.specs.Calls.{Told};
 ghost use Rattle.shared_disk.specs.Step.{IsDiskRefusal, ResultCounts};
 ghost use Rattle.task_files.specs.Remove.{RemoveLeaves, RemovesTask};
@@ -17,6 +17,7 @@ pub fn remove_task<D: SharedDisk>(
     task: Id,
 ) -> Result<(), Refusal>
     ensures counts { ResultCounts (D.faults disk.old) (D.faults disk.new) (D.calls disk.old) (D.calls disk.new) result }
+    ensures counted { D.calls disk.new ≡ min (D.calls disk.old + 1) (2 ^ 64 - 1) }
     ensures refusals { IfErr result IsDiskRefusal }
     ensures call { Told (D.content disk.old) (D.content disk.new) (RemovesTask (task_place sd task) (D.faults disk.new) result) }
     ensures content { Told (D.content disk.old) (D.content disk.new) (RemoveLeaves (task_place sd task) (D.faults disk.new) result) }
