@@ -1,5 +1,5 @@
 // Reading sector 0 of the leases file, before it is taken.
-ghost use Rattle.std.specs.Prelude.{◌≡◌, ◌≤◌, ℕ, IfErr, IfOk};
+ghost use Rattle.std.specs.Prelude.{◌≡◌, ◌≤◌, ℕ, ◌+◌, ◌-◌, ◌^◌, min, IfErr, IfOk};
 ghost use Rattle.shared_disk.specs.Calls.{Told};
 ghost use Rattle.shared_disk.specs.Refusal.{IsRisen};
 ghost use Rattle.shared_disk.specs.Step.{ResultCounts};
@@ -87,6 +87,7 @@ pub(crate) fn look<D: SharedDisk>(
     lver: u64,
 ) -> Result<Sector, Refusal>
     ensures counts { ResultCounts (D.faults disk.old) (D.faults disk.new) (D.calls disk.old) (D.calls disk.new) result }
+    ensures counted { D.calls disk.new ≡ min (D.calls disk.old + 1) (2 ^ 64 - 1) }
     ensures refusals { IfErr result IsRoleRefusal }
     ensures as_asked { IfOk result (λ sector. (owner_of sector ≡ prev) × (version_of sector ≡ lver)) }
     ensures content { Told (D.content disk.old) (D.content disk.new) (Looks host up.now sd prev lver (D.faults disk.new) result) }

@@ -1,5 +1,5 @@
 // Becoming the manager of a pool.
-ghost use Rattle.std.specs.Prelude.{◌≡◌, ◌≤◌, [], IfOk, MatchResult};
+ghost use Rattle.std.specs.Prelude.{◌≡◌, ◌≤◌, ◌+◌, ◌-◌, ◌^◌, [], min, IfOk, MatchResult};
 ghost use Rattle.sd_names.specs.Turn.{MatchTurn};
 ghost use Rattle.shared_disk.specs.Calls.{Told};
 ghost use Rattle.shared_disk.specs.Step.{EndsOnlyBy, IsDiskRefusal, NearsEnd, StepCounts};
@@ -52,7 +52,7 @@ impl SpmStart {
     ghost use Rattle.lease_area.specs.declared.sector.Sector.TheVariants.{Lease as Named};
     ghost use Rattle.spm_role.specs.Spm.{role_of};
     ghost use Rattle.sd_names.specs.declared.refusal.Refusal.TheVariants.{OutOfMemory};
-    ghost use Rattle.spm_role.specs.Start.{Checks, EndsWith, HasRead, IsAllowed, IsAt, IsInListed, IsInSeen, IsMade, IsManager, IsManagerOf, IsSameStart, IsStartRefusal, Lists, LooksAt, StartsBy, TakesRole, domain_of, lver_of, prev_of, read_of, stage_of, start_left};
+    ghost use Rattle.spm_role.specs.Start.{Checks, EndsWith, HasRead, IsAllowed, IsAt, IsCounted, IsInListed, IsInSeen, IsMade, IsManager, IsManagerOf, IsSameStart, IsStartRefusal, Lists, LooksAt, StartsBy, TakesRole, domain_of, lver_of, prev_of, read_of, stage_of, start_left};
     ghost use Rattle.spm_role.specs.Master.{IsTextRefusal};
 
     /// The start of a manager of the pool whose master is the domain `sd`, from the owner `prev` of its sector 0, 0 for
@@ -85,6 +85,7 @@ impl SpmStart {
         disk: &mut D,
     ) -> Turn<SpmStart, Spm, ()>
         ensures counts { StepCounts (D.faults disk.old) (D.faults disk.new) (D.calls disk.old) (D.calls disk.new) result }
+        ensures counted { IsCounted (stage_of self) (D.calls disk.old) (D.calls disk.new) }
         ensures refusals { EndsOnlyBy IsStartRefusal result }
         ensures keeps { NearsEnd (IsSameStart self) start_left (start_left self) result }
         ensures manager { EndsWith (IsManager self host) result }
@@ -141,6 +142,7 @@ impl SpmStart {
     // Whether sector 0 is as asked.
     fn look<D: SharedDisk>(self, host: HostId, up: &UpSet, disk: &mut D) -> Turn<SpmStart, Spm, ()>
         ensures counts { StepCounts (D.faults disk.old) (D.faults disk.new) (D.calls disk.old) (D.calls disk.new) result }
+        ensures counted { D.calls disk.new ≡ min (D.calls disk.old + 1) (2 ^ 64 - 1) }
         ensures next { MatchTurn result (IsInSeen self) (λ _. ⊥) (λ _ refusal. IsRoleRefusal refusal) }
         ensures content { Told (D.content disk.old) (D.content disk.new) (LooksAt self host up.now (D.faults disk.new) result) }
     {
@@ -206,6 +208,7 @@ impl SpmStart {
     ) -> Turn<SpmStart, Spm, ()>
         requires asked { version_of sector ≡ lver_of self }
         ensures counts { StepCounts (D.faults disk.old) (D.faults disk.new) (D.calls disk.old) (D.calls disk.new) result }
+        ensures counted { D.calls disk.new ≡ min (D.calls disk.old + 1) (2 ^ 64 - 1) }
         ensures last { MatchTurn result (λ _. ⊥) (IsManagerOf self pool host) (λ _ refusal. IsRoleRefusal refusal) }
         ensures moves { EndsWith (λ spm. LeaseMove up.now host false 0 sector (Named (role_of spm))) result }
         ensures content { Told (D.content disk.old) (D.content disk.new) (TakesRole self sector host up.now (D.faults disk.new) result) }
