@@ -1,5 +1,5 @@
 -- What a making knows, what each of its steps asks the disk, and what it leaves.
-use Rattle.std.specs.Prelude.{◌≡◌, ℕ, ◌<◌, true, List, Option, Some, None, Result, Ok, Err}
+use Rattle.std.specs.Prelude.{◌≡◌, ℕ, ◌+◌, ◌-◌, ◌^◌, ◌<◌, min, true, List, Option, Some, None, Result, Ok, Err}
 use Rattle.sd_names.specs.Turn.{MatchTurn}
 use Rattle.sd_names.specs.declared.id.Id.{Id}
 use Rattle.sd_names.specs.declared.place.Dir.{Dir}
@@ -168,6 +168,11 @@ CallOf (Clearing a) m host faults turn d e = Clears m a faults turn d e
 CallOf (Creating a) m host faults turn d e = CreatesArea m a host faults turn d e
 CallOf (Syncing a) m host faults turn d e = SyncsArea m a host faults turn d e
 CallOf (Writing r) m host faults turn d e = WritesText m r host faults turn d e
+
+-- Each step but those of the replacement makes exactly one call, also where the count of faults stands at its end.
+abbrev pub IsCounted : Stage → ℕ → ℕ → Type 0
+IsCounted (Writing r) before after = Unit {0}
+IsCounted _ before after = after ≡ min (before + 1) (2 ^ 64 - 1)
 
 -- the folders that are still to be listed, at most
 abbrev pub IsMost : Stage → ℕ → Content → Type 0

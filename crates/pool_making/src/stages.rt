@@ -1,5 +1,5 @@
 // The step of each stage: one call of the disk.
-ghost use Rattle.std.specs.Prelude.{◌≡◌, ◌≢◌, ◌≤◌, None, length, IfNone, IfSome};
+ghost use Rattle.std.specs.Prelude.{◌≡◌, ◌≢◌, ◌≤◌, ◌+◌, ◌-◌, ◌^◌, min, None, length, IfNone, IfSome};
 ghost use Rattle.sd_names.specs.Id.{IsIdBytes};
 ghost use Rattle.sd_names.specs.Turn.{MatchTurn};
 ghost use Rattle.sd_names.specs.declared.place.Dir.TheVariants.{Domain, Root};
@@ -38,6 +38,7 @@ impl MakePool {
         disk: &mut D,
     ) -> Turn<MakePool, (), ()>
         ensures counts { StepCounts (D.faults disk.old) (D.faults disk.new) (D.calls disk.old) (D.calls disk.new) result }
+        ensures counted { D.calls disk.new ≡ min (D.calls disk.old + 1) (2 ^ 64 - 1) }
         ensures next { MatchTurn result (λ next. (record_of next ≡ record_of self) × IsNext (Stage.Listing after) self (stage_of next)) (λ _. ⊥) (λ _ refusal. IsDiskRefusal refusal) }
         ensures id { IsIdBytes (domain_of self).0 }
         ensures content { Told (D.content disk.old) (D.content disk.new) (Lists self after (D.faults disk.new) result) }
@@ -59,6 +60,7 @@ impl MakePool {
         disk: &mut D,
     ) -> Turn<MakePool, (), ()>
         ensures counts { StepCounts (D.faults disk.old) (D.faults disk.new) (D.calls disk.old) (D.calls disk.new) result }
+        ensures counted { D.calls disk.new ≡ min (D.calls disk.old + 1) (2 ^ 64 - 1) }
         ensures next { MatchTurn result (λ next. (record_of next ≡ record_of self) × IsNext (Stage.Checking sd) self (stage_of next)) (λ _. ⊥) (λ _ refusal. IsMakeRefusal refusal) }
         ensures id { IsIdBytes sd.0 }
         ensures content { Told (D.content disk.old) (D.content disk.new) (Checks self sd (D.faults disk.new) result) }
@@ -78,6 +80,7 @@ impl MakePool {
     // Whether the domain has images.
     pub(crate) fn search<D: SharedDisk>(self, host: HostId, disk: &mut D) -> Turn<MakePool, (), ()>
         ensures counts { StepCounts (D.faults disk.old) (D.faults disk.new) (D.calls disk.old) (D.calls disk.new) result }
+        ensures counted { D.calls disk.new ≡ min (D.calls disk.old + 1) (2 ^ 64 - 1) }
         ensures next { MatchTurn result (λ next. (record_of next ≡ record_of self) × IsNext Stage.Searching self (stage_of next)) (λ _. ⊥) (λ _ refusal. IsMakeRefusal refusal) }
         ensures content { Told (D.content disk.old) (D.content disk.new) (Searches self (D.faults disk.new) result) }
     {
@@ -98,6 +101,7 @@ impl MakePool {
         disk: &mut D,
     ) -> Turn<MakePool, (), ()>
         ensures counts { StepCounts (D.faults disk.old) (D.faults disk.new) (D.calls disk.old) (D.calls disk.new) result }
+        ensures counted { D.calls disk.new ≡ min (D.calls disk.old + 1) (2 ^ 64 - 1) }
         ensures next { MatchTurn result (λ next. (record_of next ≡ record_of self) × IsNext (Stage.Making folder) self (stage_of next)) (λ _. ⊥) (λ _ refusal. IsDiskRefusal refusal) }
         ensures content { Told (D.content disk.old) (D.content disk.new) (Makes self folder (D.faults disk.new) result) }
     {
@@ -125,6 +129,7 @@ impl MakePool {
         disk: &mut D,
     ) -> Turn<MakePool, (), ()>
         ensures counts { StepCounts (D.faults disk.old) (D.faults disk.new) (D.calls disk.old) (D.calls disk.new) result }
+        ensures counted { D.calls disk.new ≡ min (D.calls disk.old + 1) (2 ^ 64 - 1) }
         ensures next { MatchTurn result (λ next. (record_of next ≡ record_of self) × IsNext (Stage.Clearing area) self (stage_of next)) (λ _. ⊥) (λ _ refusal. IsDiskRefusal refusal) }
         ensures content { Told (D.content disk.old) (D.content disk.new) (Clears self area (D.faults disk.new) result) }
     {
@@ -142,6 +147,7 @@ impl MakePool {
         disk: &mut D,
     ) -> Turn<MakePool, (), ()>
         ensures counts { StepCounts (D.faults disk.old) (D.faults disk.new) (D.calls disk.old) (D.calls disk.new) result }
+        ensures counted { D.calls disk.new ≡ min (D.calls disk.old + 1) (2 ^ 64 - 1) }
         ensures next { MatchTurn result (λ next. (record_of next ≡ record_of self) × IsNext (Stage.Creating area) self (stage_of next)) (λ _. ⊥) (λ _ refusal. IsDiskRefusal refusal) }
         ensures content { Told (D.content disk.old) (D.content disk.new) (CreatesArea self area host (D.faults disk.new) result) }
     {
@@ -159,6 +165,7 @@ impl MakePool {
         disk: &mut D,
     ) -> Turn<MakePool, (), ()>
         ensures counts { StepCounts (D.faults disk.old) (D.faults disk.new) (D.calls disk.old) (D.calls disk.new) result }
+        ensures counted { D.calls disk.new ≡ min (D.calls disk.old + 1) (2 ^ 64 - 1) }
         ensures next { MatchTurn result (IsBehind self area) (λ _. ⊥) (λ _ refusal. IsDiskRefusal refusal) }
         ensures content { Told (D.content disk.old) (D.content disk.new) (SyncsArea self area host (D.faults disk.new) result) }
     {
