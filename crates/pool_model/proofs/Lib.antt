@@ -11,3 +11,4 @@ pub mod RawBase
 pub mod MadePool
 pub mod Readings
 pub mod Boots
+pub mod Guests

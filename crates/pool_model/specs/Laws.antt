@@ -12,7 +12,7 @@ use Rattle.sd_names.specs.declared.place.Name.{Name}
 use Rattle.sd_names.specs.declared.place.Name.TheVariants as name
 use Rattle.sd_names.specs.declared.place.Place.{Place}
 use Rattle.shared_disk.specs.Content.{Content, File, IsEmpty, zero_sector}
-use Rattle.shared_disk.specs.Crash.{IsAllSettled, IsOutcome, IsSettled}
+use Rattle.shared_disk.specs.Crash.{IsAllSettled, IsAlone, IsOutcome, IsSettled}
 use Rattle.shared_disk.specs.NameCalls.{place_in}
 use Rattle.folder_layout.specs.Layout.{HoldsName}
 use Rattle.volume_meta.specs.Read.{read_volume}
@@ -26,13 +26,13 @@ use Rattle.chain_model.specs.Reading.{IsReading}
 use Rattle.chain_model.specs.Records.{Image as ImageIn, records_of, stored_text}
 use Rattle.pool_model.specs.Covered.{Covered, Keeps}
 use Rattle.pool_model.specs.ImageStands.{FolderMeans, IsImage}
-use Rattle.pool_model.specs.Leases.{IsGuest, IsNamed, Leads, NamesAt}
+use Rattle.pool_model.specs.Leases.{Holds, IsGuest, IsNamed, Leads, NamesAt}
 use Rattle.pool_model.specs.Made.{base_image, master_pool}
 use Rattle.pool_model.specs.Owned.{AlsoLonger, OwnedImages}
 use Rattle.pool_model.specs.Pool.{History, Image, Pool, Volume, no_pool}
 use Rattle.pool_model.specs.Reading.{records_in}
 use Rattle.pool_model.specs.Same.{SamePool}
-use Rattle.pool_model.specs.Standing.{HasDomainText, HasFolders, ImageStands, IsAlive, IsZeroFile, Stands, box_sectors, file_in, lease_sectors, metadata_of}
+use Rattle.pool_model.specs.Standing.{HasDomainText, HasFolders, ImageStands, IsAlive, IsVolumeName, IsZeroFile, Stands, box_sectors, file_in, lease_sectors, metadata_of}
 use Rattle.pool_model.specs.Tasks.{IsMaking}
 
 -- ---- the empty disk
@@ -181,3 +181,15 @@ abbrev pub GuestsKeepImages : Type 0
 GuestsKeepImages =
     (up : Hosts) (d : Content) (p q : Pool) (h g : ℕ) (sd i : Id) (r : DomainRecord) → Stands up d p → OwnedImages h p q → p.domain sd ≡ Some r
     → IsGuest p sd i g → g ≢ h → (q.image sd i ≡ p.image sd i) ⊎ AlsoLonger (p.image sd i) (q.image sd i)
+
+-- whoever holds an image that has a guest is the guest
+abbrev pub GuestsHoldAlone : Type 0
+GuestsHoldAlone =
+    (up : Hosts) (d : Content) (p : Pool) (h g : ℕ) (sd i : Id) (r : DomainRecord) → Stands up d p → p.domain sd ≡ Some r
+    → IsGuest p sd i g → Holds p h sd i → h ≡ g
+
+-- and no other host has anything unsynced in its volumes' files and texts
+abbrev pub GuestsWriteAlone : Type 0
+GuestsWriteAlone =
+    (up : Hosts) (d : Content) (p : Pool) (g : ℕ) (sd i : Id) (r : DomainRecord) (n : Name) (f : File) → Stands up d p → p.domain sd ≡ Some r
+    → IsGuest p sd i g → IsVolumeName n → folder_of (dir.Image sd i) d n ≡ Some f → IsAlone g f

@@ -1,5 +1,6 @@
 // Laws of disks that stand for a pool.
-ghost use Rattle.pool_model.specs.Laws.{BootsStand, EmptyStands, FlatListsAreRead, GuestsKeepImages, ImageFrame};
+ghost use Rattle.pool_model.specs.Laws.{BootsStand, EmptyStands, FlatListsAreRead, GuestsHoldAlone, GuestsKeepImages};
+ghost use Rattle.pool_model.specs.Laws.{GuestsWriteAlone, ImageFrame};
 ghost use Rattle.pool_model.specs.Laws.{MadePoolsStand, NobodySettles, NobodyTears, OnePool, RawBasesMean};
 ghost use Rattle.pool_model.specs.Laws.{ReadingAgrees, SettledFoldersMean, StandingIsCovered, StandingKeeps};
 
@@ -68,4 +69,11 @@ pub fn images_stand_alone()
 /// guest as it was, but for a file that the manager made longer.
 pub fn guests_keep_their_images()
     ensures { GuestsKeepImages }
+{}
+
+/// A law: whoever holds an image that has a guest is the guest, and no other host has anything unsynced in the files of
+/// its volumes and their texts.
+pub fn guests_are_alone()
+    ensures holds { GuestsHoldAlone }
+    ensures writes { GuestsWriteAlone }
 {}
