@@ -48,11 +48,6 @@ abbrev pub Writes : Option Running → Id → Id → Type 0
 Writes None sd i = ⊥
 Writes (Some run) sd i = (at : ℕ) × ((bytes : List ℕ) × (run.verb ≡ verb.write sd i at bytes))
 
--- or closes it
-abbrev pub ClosesIt : Option Running → Id → Id → Type 0
-ClosesIt None sd i = ⊥
-ClosesIt (Some run) sd i = run.verb ≡ verb.close_image sd i
-
 -- Its domain is listed and its sector is the host's as a guest. It can be opened; a write is mixed in only where one runs, or
 -- where a fault has broken it.
 pub record KnowsOpened (h : ℕ) (run : Option Running) (o : Opened) (p : Pool) : Type 0 where

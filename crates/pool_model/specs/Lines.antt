@@ -1,6 +1,6 @@
 -- The lines of a script, one after the other, and their replies.
 -- Claim: the replies of a session are those of such a run, whose last state the disk stands for.
-use Rattle.std.specs.Prelude.{◌≡◌, ℕ, ◌+◌, ◌<◌, ◌≤◌, true, false, List, [], ◌∷◌, slice_set, Option, Some, None, Result, Ok, Err}
+use Rattle.std.specs.Prelude.{◌≡◌, ℕ, ◌+◌, ◌<◌, ◌≤◌, true, false, List, [], ◌∷◌, length, slice_set, Option, Some, None, Result, Ok, Err}
 use Rattle.std.specs.List.{count_by}
 use Rattle.sd_names.specs.UpSet.{Hosts, is_up}
 use Rattle.sd_names.specs.declared.refusal.Refusal.{Refusal}
@@ -120,10 +120,15 @@ pub data Moves : Line → State → ℕ → Option Reply → List ℕ → State 
   whole : {s o t : State} {n m h : ℕ} {v : Said} (k : ℕ) (a : Answer) → is_up s.up h ≡ true → IsResting s h → BeginsAt h v s (Ok tt) o
       → IsLast a → Steps h k o n a t m → Moves (line.Whole h v) s n (Some (reply_of a)) (bytes_in a) t m
 
--- The first state: the pool that the disk stands for, with no host up.
+-- as many numbers as there are of hosts, with 0, which is none
+abbrev pub host_numbers : ℕ
+host_numbers = 251
+
+-- The first state: the pool that the disk stands for, with no host up, and room for each.
 pub record IsFirst (s : State) (p : Pool) (moment : ℕ) : Type 0 where
   pub pool : s.pool ≡ p
   pub moment_is : s.moment ≡ moment
+  pub size : length s.up ≡ host_numbers
   pub none : (h : ℕ) → is_up s.up h ≡ false
   pub known : (h : ℕ) → s.host h ≡ booted
 

@@ -163,9 +163,23 @@ is_lead _ = false
 abbrev pub awaits_lease : List Mark → Bool
 awaits_lease ns = list_any is_take ns || list_any is_lead ns
 
+-- what is counted before the lease is taken: nothing, so that a verb can't run on without it
+abbrev pub no_sizes : Sizes
+no_sizes = record {
+  names = 0;
+  volumes = 0;
+  tables = 0;
+  path = [];
+  folders = 0;
+  domains = 0;
+  tasks = 0;
+  held = [];
+  open_steps = [];
+}
+
 -- At a begin, where the verb waits for no lease; and in the step in which it takes the lease, on the disk after it.
 abbrev pub MeasuredAtBegin : Bool → ℕ → Verb → Content → Pool → Sizes → Type 0
-MeasuredAtBegin true h v d p s = Unit {0}
+MeasuredAtBegin true h v d p s = s ≡ no_sizes
 MeasuredAtBegin false h v d p s = Measured h v d p s
 
 abbrev pub MeasuredInStep : Bool → Bool → ℕ → Verb → Content → Pool → Sizes → Sizes → Type 0

@@ -78,8 +78,10 @@ torn_by v x at bytes = record {
   room = λ w. if id_is w v then option_map (filled_by at (length bytes)) x.room else None;
 }
 
+-- the room that a write leaves; the length is the file's, which may have become longer meanwhile
 abbrev pub instead : Option Room → Option Room → Option Room
-instead (Some r) room = Some r
+instead (Some new) (Some old) = Some (record new { length = old.length })
+instead (Some new) None = None
 instead None room = room
 
 -- a volume, and an image whose reading volume is v, once the write is done

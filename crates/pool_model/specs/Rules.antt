@@ -1,5 +1,6 @@
 -- What each check refuses, and what each change does, in the pool of its moment.
--- Claim: a refusal is given in a moment in which its condition holds, and goes on in one in which it doesn't.
+-- Claim: a refusal is given in a moment in which its condition holds, and the verb goes on in one in which it doesn't. One
+-- condition speaks of the past too, and may do both: that an image was missing since the verb began.
 use Rattle.std.specs.Prelude.{◌≡◌, ◌≢◌, ◌⊎◌, ℕ, ◌%◌, ◌<◌, Bool, true, false, List, ◌∷◌, length, Contains, Option, Some, None, Result, Ok, Err}
 use Rattle.std.specs.declared.cmp.Ordering.TheVariants.{Less}
 use Rattle.sd_names.specs.UpSet.{Hosts}
@@ -87,6 +88,12 @@ Refuses c (unheld sd i) e p =
 Refuses c (openable sd i) e p = (m : Image) × (p.image sd i ≡ Some m) × (m.fault ≡ Some e)
 Refuses c (has_room sd i at bytes) e p =
     (m : Image) × ((v : Id) × ((x : Volume) × ((y : VolumeRecord) × (p.image sd i ≡ Some m) × ReadsAs m v x y × IsShort y.format v x at (length bytes) e)))
+
+-- A check goes on where it refuses nothing now. That an image was missing since the verb began may be refused, and needn't be:
+-- whoever looks for it after it was made anew finds it.
+abbrev pub Passes : Maker → Check → Pool → Type 0
+Passes c (named sd i) p = IsUnnamed p sd i → ⊥
+Passes c k p = (e : Refusal) → Refuses c k e p → ⊥
 
 -- ---- what each change does
 
@@ -223,7 +230,7 @@ Spent (grow sd i) p = (w : Id) (m : Image) (r : Room) → IsRagged p sd i w m r 
 -- tasks that were settled.
 pub data Passing (c : Maker) : List Mark → ℕ → Pool → List Mark → ℕ → Pool → Type 0 where
   here : {ms : List Mark} {n : ℕ} {p : Pool} → Passing c ms n p ms n p
-  passed : {k : Check} {ms ns : List Mark} {n m : ℕ} {p q : Pool} → ((e : Refusal) → Refuses c k e p → ⊥) → Passing c ms n p ns m q
+  passed : {k : Check} {ms ns : List Mark} {n m : ℕ} {p q : Pool} → Passes c k p → Passing c ms n p ns m q
       → Passing c (check k ∷ ms) n p ns m q
   changed : {k : Change} {ms ns : List Mark} {n m : ℕ} {p o q : Pool} → Changes c k p o → Passing c ms n o ns m q
       → Passing c (change k ∷ ms) n p ns m q

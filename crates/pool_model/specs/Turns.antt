@@ -1,6 +1,6 @@
 -- One step of a running verb, by its answer.
 -- Claim: each step makes some of the verb's marks that were still to come, and what it answers belongs to them.
-use Rattle.std.specs.Prelude.{◌≡◌, ◌⊎◌, ℕ, ◌+◌, ◌/◌, ◌-◌, ◌^◌, min, Bool, true, false, List, [], ◌∷◌, Some, None}
+use Rattle.std.specs.Prelude.{◌≡◌, ◌⊎◌, ℕ, ◌+◌, ◌/◌, ◌-◌, ◌^◌, min, Bool, true, false, List, [], ◌∷◌, length, Some, None}
 use Rattle.std.specs.List.{list_any}
 use Rattle.sd_names.specs.UpSet.{Hosts}
 use Rattle.sd_names.specs.declared.id.Id.{Id}
@@ -112,14 +112,21 @@ Ends h (verb.clear_task t) n x q payload.ClearTask bytes y = IsIdle x y x.role
 Ends h verb.recover n x q (payload.Recover count) bytes y = (count ≡ n) × IsIdle x y (ended_role x.role)
 Ends h v n x q reply bytes y = ⊥
 
--- A fault of the disk, at this count, with these marks left. A verb with a task leaves it open; one on an open image breaks it;
--- a close that had not chosen yet leaves its image open, and one that had does not.
+-- the manager has a task that may be there or not: until it has recovered it begins no verb that asks for one
+abbrev pub doubted_role : Id → Role → Role
+doubted_role t outside = outside
+doubted_role t (leads m) = leads (record m { begun = Some t })
+
+-- A fault of the disk, at this count, with these marks left. A verb with a task leaves it open, and so does one that clears a
+-- task, which may be gone or not; one on an open image breaks it; a close that had not chosen yet leaves its image open, and
+-- one that had does not.
 abbrev pub Cut : Verb → List Mark → ℕ → HostState → HostState → Type 0
 Cut (verb.close_image sd i) (change (choose domain image) ∷ ns) n x y = (y.role ≡ x.role) × Breaks sd i n x y
 Cut (verb.close_image sd i) ns n x y = (y.role ≡ x.role) × Closes sd i x y
 Cut (verb.read sd i at count) ns n x y = (y.role ≡ x.role) × Breaks sd i n x y
 Cut (verb.write sd i at bytes) ns n x y = (y.role ≡ x.role) × Breaks sd i n x y
 Cut verb.spm_stop ns n x y = IsIdle x y outside
+Cut (verb.clear_task t) ns n x y = IsIdle x y (doubted_role t x.role)
 Cut v ns n x y = IsIdle x y x.role
 
 -- ---- the answers
@@ -134,12 +141,18 @@ pub record RunsOn (c : Maker) (run : Running) (x : HostState) (p : Pool) (y : Ho
   pub running : y.running ≡ Some (record { verb = run.verb; marks = marks; tally = tally; steps = min (run.steps + 1) (2 ^ 64 - 1); kept = kept })
   pub idle : IsIdle x y x.role
 
+-- bytes are given by a read alone
+abbrev pub GivesBytes : Payload → List ℕ → Type 0
+GivesBytes (payload.Read count) bytes = length bytes ≡ count
+GivesBytes _ bytes = bytes ≡ []
+
 -- The verb is done: no mark is left.
 pub record IsDone (c : Maker) (run : Running) (x : HostState) (p : Pool) (reply : Payload) (bytes : List ℕ) (y : HostState) (q : Pool) : Type 0 where
   pub tally : ℕ
   pub passing : Passing c run.marks run.tally p [] tally q
   pub running : y.running ≡ None
   pub ends : Ends c.host run.verb tally x q reply bytes y
+  pub gives : GivesBytes reply bytes
 
 -- A check refuses, in the pool of its moment. The verb's own lease is given back; nothing else changes.
 pub record IsRefused (c : Maker) (run : Running) (x : HostState) (p : Pool) (e : Refusal) (y : HostState) (q : Pool) : Type 0 where
