@@ -1,6 +1,6 @@
 -- What a host's memory has to say truly of the pool, as far as that is said of pool and host alone.
 -- Claim: it is true after each step of the host, and stays true under each owned change and each crash of another.
-use Rattle.std.specs.Prelude.{◌≡◌, ◌≢◌, ◌⊎◌, ℕ, ◌<◌, List, [], ◌∷◌, Contains, Option, Some, None}
+use Rattle.std.specs.Prelude.{◌≡◌, ◌≢◌, ◌⊎◌, ℕ, ◌<◌, true, List, [], ◌∷◌, Contains, Option, Some, None}
 use Rattle.std.specs.List.Sorted.{IsStrictlySortedBy}
 use Rattle.sd_names.specs.declared.id.Id.{Id}
 use Rattle.sd_names.specs.declared.task_state.TaskState.{TaskState}
@@ -11,7 +11,7 @@ use Rattle.pool_model.specs.Leases.{IsGuest, IsTasked}
 use Rattle.pool_model.specs.Marks.{change, make_master}
 use Rattle.pool_model.specs.Pool.{Image, Pool, Torn}
 use Rattle.pool_model.specs.Role.{Manager, Role, leads, outside}
-use Rattle.pool_model.specs.Rules.{IsHeldAt}
+use Rattle.pool_model.specs.Rules.{IsHeldAt, text_of}
 use Rattle.pool_model.specs.State.{HostState, OpenAt, Opened, Running, places}
 use Rattle.pool_model.specs.Tasks.{IsOpen, NoneOpen}
 use Rattle.pool_model.specs.Verb.{Verb}
@@ -74,9 +74,15 @@ abbrev pub KnowsMaking : Option Running → Pool → Type 0
 KnowsMaking None p = Unit {0}
 KnowsMaking (Some run) p = (r : DomainRecord) → run.marks ≡ change (make_master r) ∷ [] → p.master ≡ None
 
+-- the texts that were there when the verb began still are
+abbrev pub KnowsTexts : Option Running → Pool → Type 0
+KnowsTexts None p = Unit {0}
+KnowsTexts (Some run) p = (sd : Id) → run.kept.texts sd ≡ true → text_of p sd ≢ None
+
 pub record Knows (h : ℕ) (x : HostState) (p : Pool) : Type 0 where
   pub role : KnowsRole h x.role p
   pub opened : (s : ℕ) (o : Opened) → s < places → x.opened s ≡ Some o → KnowsOpened h x.running o p
   pub once : OpensOnce x
   pub torn : KnowsTorn h x p
   pub making : KnowsMaking x.running p
+  pub texts : KnowsTexts x.running p

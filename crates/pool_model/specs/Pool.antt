@@ -27,7 +27,7 @@ pub record Volume : Type 0 where
   pub flat : ℕ → List ℕ
 
 -- A write that runs or was cut: these bytes are laid over the reading volume from this sector on, and files have these
--- rooms once it is done.
+-- rooms once it is done, but for their lengths.
 pub record Torn : Type 0 where
   pub at : ℕ
   pub bytes : List ℕ

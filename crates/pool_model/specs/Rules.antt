@@ -3,6 +3,7 @@
 -- condition speaks of the past too, and may do both: that an image was missing since the verb began.
 use Rattle.std.specs.Prelude.{◌≡◌, ◌≢◌, ◌⊎◌, ℕ, ◌%◌, ◌<◌, Bool, true, false, List, ◌∷◌, length, Contains, Option, Some, None, Result, Ok, Err}
 use Rattle.std.specs.declared.cmp.Ordering.TheVariants.{Less}
+use Rattle.sd_names.specs.Id.{IsIdBytes}
 use Rattle.sd_names.specs.UpSet.{Hosts}
 use Rattle.sd_names.specs.declared.fault.DomainFault.{DomainFault}
 use Rattle.sd_names.specs.declared.id.Id.{Id}
@@ -48,10 +49,9 @@ text_by None stray = stray
 abbrev pub text_of : Pool → Id → Option (Result DomainRecord DomainFault)
 text_of p sd = text_by (p.domain sd) (p.stray sd)
 
--- no lesser folder had a text when the verb began, where this was the least that had one
-abbrev pub IsNoneBelow : Option Id → Id → Type 0
-IsNoneBelow None sd = Unit {0}
-IsNoneBelow (Some least) sd = id_cmp least sd ≢ Less
+-- no lesser folder had a text when the verb began, where these had one
+abbrev pub IsNoneBelow : (Id → Bool) → Id → Type 0
+IsNoneBelow had sd = (lesser : Id) → IsIdBytes lesser.0 → had lesser ≡ true → id_cmp lesser sd ≢ Less
 
 abbrev pub IsListed : Pool → Id → Type 0
 IsListed p sd = (r : DomainRecord) × (p.domain sd ≡ Some r)
@@ -67,7 +67,7 @@ pub record IsHeldAt (s : Sector) (h version : ℕ) : Type 0 where
 
 abbrev pub Refuses : Maker → Check → Refusal → Pool → Type 0
 Refuses c no_pool e p =
-    (sd : Id) × ((t : Result DomainRecord DomainFault) × (text_of p sd ≡ Some t) × IsNoneBelow c.kept.least sd × (e ≡ PoolExists sd))
+    (sd : Id) × ((t : Result DomainRecord DomainFault) × (text_of p sd ≡ Some t) × IsNoneBelow c.kept.texts sd × (e ≡ PoolExists sd))
 Refuses c (new_domain sd) e p = (IsListed p sd ⊎ (p.shows sd ≡ true)) × (e ≡ DomainExists)
 Refuses c (has_text sd) e p = (text_of p sd ≡ None) × (e ≡ NoDomain)
 Refuses c (readable sd) e p = (fault : DomainFault) × (text_of p sd ≡ Some (Err fault)) × (e ≡ DomainCorrupt fault)

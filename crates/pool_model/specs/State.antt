@@ -1,5 +1,5 @@
 -- What a host keeps between its lines, and the state of the whole machine.
-use Rattle.std.specs.Prelude.{◌≡◌, ◌≢◌, ℕ, ◌<◌, List, Option, Some, None}
+use Rattle.std.specs.Prelude.{◌≡◌, ◌≢◌, ℕ, ◌<◌, Bool, List, Option, Some, None}
 use Rattle.sd_names.specs.UpSet.{Hosts}
 use Rattle.sd_names.specs.declared.id.Id.{Id}
 use Rattle.pool_model.specs.Pool.{Pool}
@@ -23,12 +23,12 @@ pub record Opened : Type 0 where
   pub phase : Phase
   pub broken : Option ℕ
 
--- What no program keeps, and a claim on a running verb takes from the moment of its begin: what history said then, the
--- least folder that held a domain's text, and what the bound on steps counts.
+-- What no program keeps, and a claim on a running verb takes from the moment of its begin: what history said then, which
+-- folders held a domain's text, and what the bound on steps counts.
 pub record Kept : Type 0 where
   pub named : Id → Id → ℕ
   pub foreign : Id → Id → ℕ
-  pub least : Option Id
+  pub texts : Id → Bool
   pub sizes : Sizes
 
 -- a verb that runs, the marks that are still to come, how many tasks it has settled and how many steps it has had
