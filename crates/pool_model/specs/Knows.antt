@@ -14,7 +14,6 @@ use Rattle.pool_model.specs.Role.{Manager, Role, leads, outside}
 use Rattle.pool_model.specs.Rules.{IsHeldAt, text_of}
 use Rattle.pool_model.specs.State.{HostState, OpenAt, Opened, Running, places}
 use Rattle.pool_model.specs.Tasks.{IsOpen, NoneOpen}
-use Rattle.pool_model.specs.Verb.{Verb}
 use Rattle.pool_model.specs.Verb as verb
 
 -- ---- the role
