@@ -12,3 +12,4 @@ pub mod MadePool
 pub mod Readings
 pub mod Boots
 pub mod Guests
+pub mod Begins

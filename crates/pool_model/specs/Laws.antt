@@ -26,13 +26,16 @@ use Rattle.chain_model.specs.Reading.{IsReading}
 use Rattle.chain_model.specs.Records.{Image as ImageIn, records_of, stored_text}
 use Rattle.pool_model.specs.Covered.{Covered, Keeps}
 use Rattle.pool_model.specs.ImageStands.{FolderMeans, IsImage}
+use Rattle.pool_model.specs.Kept.{IsKept}
 use Rattle.pool_model.specs.Leases.{Holds, IsGuest, IsNamed, Leads, NamesAt}
 use Rattle.pool_model.specs.Made.{base_image, master_pool}
 use Rattle.pool_model.specs.Owned.{AlsoLonger, OwnedImages}
 use Rattle.pool_model.specs.Pool.{History, Image, Pool, Volume, no_pool}
 use Rattle.pool_model.specs.Reading.{records_in}
 use Rattle.pool_model.specs.Same.{SamePool}
+use Rattle.pool_model.specs.Sizes.{Sizes}
 use Rattle.pool_model.specs.Standing.{HasDomainText, HasFolders, ImageStands, IsAlive, IsVolumeName, IsZeroFile, Stands, box_sectors, file_in, lease_sectors, metadata_of}
+use Rattle.pool_model.specs.State.{Kept}
 use Rattle.pool_model.specs.Tasks.{IsMaking}
 
 -- ---- the empty disk
@@ -193,3 +196,9 @@ abbrev pub GuestsWriteAlone : Type 0
 GuestsWriteAlone =
     (up : Hosts) (d : Content) (p : Pool) (g : ℕ) (sd i : Id) (r : DomainRecord) (n : Name) (f : File) → Stands up d p → p.domain sd ≡ Some r
     → IsGuest p sd i g → IsVolumeName n → folder_of (dir.Image sd i) d n ≡ Some f → IsAlone g f
+
+-- ---- what a verb keeps
+
+-- in each pool, whatever the sizes
+abbrev pub BeginsKeep : Type 0
+BeginsKeep = (h : ℕ) (p : Pool) (s : Sizes) → (k : Kept) × IsKept h p k × (k.sizes ≡ s)

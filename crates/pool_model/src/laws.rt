@@ -1,5 +1,5 @@
 // Laws of disks that stand for a pool.
-ghost use Rattle.pool_model.specs.Laws.{BootsStand, EmptyStands, FlatListsAreRead, GuestsHoldAlone, GuestsKeepImages};
+ghost use Rattle.pool_model.specs.Laws.{BeginsKeep, BootsStand, EmptyStands, FlatListsAreRead, GuestsHoldAlone, GuestsKeepImages};
 ghost use Rattle.pool_model.specs.Laws.{GuestsWriteAlone, ImageFrame};
 ghost use Rattle.pool_model.specs.Laws.{MadePoolsStand, NobodySettles, NobodyTears, OnePool, RawBasesMean};
 ghost use Rattle.pool_model.specs.Laws.{ReadingAgrees, SettledFoldersMean, StandingIsCovered, StandingKeeps};
@@ -76,4 +76,9 @@ pub fn guests_keep_their_images()
 pub fn guests_are_alone()
     ensures holds { GuestsHoldAlone }
     ensures writes { GuestsWriteAlone }
+{}
+
+/// A law: in each pool there is what a verb keeps of the moment of its begin, so that one can begin.
+pub fn begins_keep_what_there_is()
+    ensures { BeginsKeep }
 {}
