@@ -1,7 +1,6 @@
 -- What a verb keeps of the moment of its begin is a function of the pool.
-use Rattle.std.specs.Prelude.{◌≡◌, ℕ, refl}
+use Rattle.std.specs.Prelude.{ℕ, refl}
 use Rattle.std.specs.Option.{is_some}
-use Rattle.pool_model.specs.Kept.{IsKept}
 use Rattle.pool_model.specs.Laws.{BeginsKeep}
 use Rattle.pool_model.specs.Pool.{Pool}
 use Rattle.pool_model.specs.Rules.{text_of}

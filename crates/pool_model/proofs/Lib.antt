@@ -13,3 +13,4 @@ pub mod Readings
 pub mod Boots
 pub mod Guests
 pub mod Begins
+pub mod Booted

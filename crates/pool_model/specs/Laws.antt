@@ -1,5 +1,5 @@
 -- Laws of disks that stand for a pool, as statements.
-use Rattle.std.specs.Prelude.{◌≡◌, ◌≢◌, ◌⊎◌, ℕ, ◌*◌, ◌<◌, true, false, List, [], ◌∷◌, Some, None, Ok}
+use Rattle.std.specs.Prelude.{◌≡◌, ◌≢◌, ◌⊎◌, ℕ, ◌*◌, ◌<◌, true, false, List, [], ◌∷◌, length, Some, None, Ok}
 use Rattle.sd_names.specs.UpSet.{Hosts, is_up}
 use Rattle.sd_names.specs.declared.id.Id.{Id}
 use Rattle.sd_names.specs.Id.{zero_id}
@@ -11,6 +11,8 @@ use Rattle.sd_names.specs.declared.place.Dir.TheVariants as dir
 use Rattle.sd_names.specs.declared.place.Name.{Name}
 use Rattle.sd_names.specs.declared.place.Name.TheVariants as name
 use Rattle.sd_names.specs.declared.place.Place.{Place}
+use Rattle.script_lines.specs.declared.event.Line.TheVariants as line
+use Rattle.script_lines.specs.declared.reply.Reply.TheVariants as reply
 use Rattle.shared_disk.specs.Content.{Content, File, IsEmpty, zero_sector}
 use Rattle.shared_disk.specs.Crash.{IsAllSettled, IsAlone, IsOutcome, IsSettled}
 use Rattle.shared_disk.specs.NameCalls.{place_in}
@@ -28,6 +30,7 @@ use Rattle.pool_model.specs.Covered.{Covered, Keeps}
 use Rattle.pool_model.specs.ImageStands.{FolderMeans, IsImage}
 use Rattle.pool_model.specs.Kept.{IsKept}
 use Rattle.pool_model.specs.Leases.{Holds, IsGuest, IsNamed, Leads, NamesAt}
+use Rattle.pool_model.specs.Lines.{Moves}
 use Rattle.pool_model.specs.Made.{base_image, master_pool}
 use Rattle.pool_model.specs.Owned.{AlsoLonger, OwnedImages}
 use Rattle.pool_model.specs.Pool.{History, Image, Pool, Volume, no_pool}
@@ -35,7 +38,7 @@ use Rattle.pool_model.specs.Reading.{records_in}
 use Rattle.pool_model.specs.Same.{SamePool}
 use Rattle.pool_model.specs.Sizes.{Sizes}
 use Rattle.pool_model.specs.Standing.{HasDomainText, HasFolders, ImageStands, IsAlive, IsVolumeName, IsZeroFile, Stands, box_sectors, file_in, lease_sectors, metadata_of}
-use Rattle.pool_model.specs.State.{Kept}
+use Rattle.pool_model.specs.State.{Kept, State}
 use Rattle.pool_model.specs.Tasks.{IsMaking}
 
 -- ---- the empty disk
@@ -202,3 +205,9 @@ GuestsWriteAlone =
 -- in each pool, whatever the sizes
 abbrev pub BeginsKeep : Type 0
 BeginsKeep = (h : ℕ) (p : Pool) (s : Sizes) → (k : Kept) × IsKept h p k × (k.sizes ≡ s)
+
+-- ---- a boot
+
+-- a host that a boot answers ok is up, where the list has its number, as the first state's has
+abbrev pub BootedAreUp : Type 0
+BootedAreUp = (s t : State) (n m h : ℕ) (bytes : List ℕ) → h < length s.up → Moves (line.Boot h) s n (Some reply.Plain) bytes t m → is_up t.up h ≡ true

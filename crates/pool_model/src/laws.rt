@@ -1,6 +1,6 @@
 // Laws of disks that stand for a pool.
-ghost use Rattle.pool_model.specs.Laws.{BeginsKeep, BootsStand, EmptyStands, FlatListsAreRead, GuestsHoldAlone, GuestsKeepImages};
-ghost use Rattle.pool_model.specs.Laws.{GuestsWriteAlone, ImageFrame};
+ghost use Rattle.pool_model.specs.Laws.{BeginsKeep, BootedAreUp, BootsStand, EmptyStands, FlatListsAreRead};
+ghost use Rattle.pool_model.specs.Laws.{GuestsHoldAlone, GuestsKeepImages, GuestsWriteAlone, ImageFrame};
 ghost use Rattle.pool_model.specs.Laws.{MadePoolsStand, NobodySettles, NobodyTears, OnePool, RawBasesMean};
 ghost use Rattle.pool_model.specs.Laws.{ReadingAgrees, SettledFoldersMean, StandingIsCovered, StandingKeeps};
 
@@ -81,4 +81,9 @@ pub fn guests_are_alone()
 /// A law: in each pool there is what a verb keeps of the moment of its begin, so that one can begin.
 pub fn begins_keep_what_there_is()
     ensures { BeginsKeep }
+{}
+
+/// A law: a host whose boot is answered ok is up, where the list of hosts has its number.
+pub fn booted_hosts_are_up()
+    ensures { BootedAreUp }
 {}
