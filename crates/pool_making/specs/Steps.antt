@@ -169,11 +169,6 @@ CallOf (Creating a) m host faults turn d e = CreatesArea m a host faults turn d 
 CallOf (Syncing a) m host faults turn d e = SyncsArea m a host faults turn d e
 CallOf (Writing r) m host faults turn d e = WritesText m r host faults turn d e
 
--- Each step but those of the replacement makes exactly one call, also where the count of faults stands at its end.
-abbrev pub IsCounted : Stage → ℕ → ℕ → Type 0
-IsCounted (Writing r) before after = Unit {0}
-IsCounted _ before after = after ≡ min (before + 1) (2 ^ 64 - 1)
-
 -- the folders that are still to be listed, at most
 abbrev pub IsMost : Stage → ℕ → Content → Type 0
 IsMost (Listing after) n d = ListsAtMost n d after

@@ -1,5 +1,5 @@
 // Making a pool: what is made, and how far it is.
-ghost use Rattle.std.specs.Prelude.{◌≡◌, ◌≤◌, length, IfOk};
+ghost use Rattle.std.specs.Prelude.{◌≡◌, ◌≤◌, ◌+◌, ◌-◌, ◌^◌, min, length, IfOk};
 ghost use Rattle.domain_meta.specs.Text.{HasShortTexts, domain_text};
 ghost use Rattle.kv_text.specs.Text.{IsOneLine};
 ghost use Rattle.pool_making.specs.Writing.{length_kept, only_master};
@@ -50,7 +50,7 @@ impl MakePool {
     ghost use Rattle.shared_disk.specs.Calls.{Told};
     ghost use Rattle.shared_disk.specs.Step.{EndsOnlyBy, StepCounts};
     ghost use Rattle.pool_making.specs.Making.{IsAt, IsLastOf, IsMakeRefusal, IsNearer, record_of, stage_of};
-    ghost use Rattle.pool_making.specs.Steps.{CallOf, Falls, IsCounted, Knows, MakeSteps};
+    ghost use Rattle.pool_making.specs.Steps.{CallOf, Falls, Knows, MakeSteps};
 
     /// The making of the pool `pool` with the domain `sd` as its master, of this version and with this description,
     /// of at most 4,096 bytes without a line feed. Refused for want of memory alone.
@@ -79,7 +79,7 @@ impl MakePool {
     /// leases, inbox and outbox is removed and made again.
     pub fn step<D: SharedDisk>(self, host: HostId, disk: &mut D) -> Turn<MakePool, (), ()>
         ensures counts { StepCounts (D.faults disk.old) (D.faults disk.new) (D.calls disk.old) (D.calls disk.new) result }
-        ensures counted { IsCounted (stage_of self) (D.calls disk.old) (D.calls disk.new) }
+        ensures counted { D.calls disk.new ≡ min (D.calls disk.old + 1) (2 ^ 64 - 1) }
         ensures refusals { EndsOnlyBy IsMakeRefusal result }
         ensures keeps { MatchTurn result (IsNearer self) (λ _. IsLastOf (stage_of self)) (λ _ _. Unit {0}) }
         ensures falls { Told (D.content disk.old) (D.content disk.new) (Falls self result) }

@@ -203,6 +203,7 @@ impl MakePool {
     ) -> Turn<MakePool, (), ()>
         requires text { length_of replace ≡ length (text_of self) }
         ensures counts { StepCounts (D.faults disk.old) (D.faults disk.new) (D.calls disk.old) (D.calls disk.new) result }
+        ensures counted { D.calls disk.new ≡ min (D.calls disk.old + 1) (2 ^ 64 - 1) }
         ensures next { MatchTurn result (λ next. (record_of next ≡ record_of self) × IsNext (Stage.Writing replace) self (stage_of next)) (λ _. Unit {0}) (λ _ refusal. IsDiskRefusal refusal) }
         ensures content { Told (D.content disk.old) (D.content disk.new) (WritesText self replace host (D.faults disk.new) result) }
         ensures steps { Told (D.content disk.old) (D.content disk.new) (λ d e. KnowsReplace replace host (text_of self) d → StepsText self replace host (D.faults disk.new) result d e) }

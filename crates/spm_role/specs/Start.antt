@@ -75,12 +75,6 @@ left_of (Listed s pool) = 1
 abbrev pub start_left : SpmStart → ℕ
 start_left s = left_of (stage_of s)
 
--- The steps that read or exchange sector 0 make exactly one call, also where the count of faults stands at its end.
-abbrev pub IsCounted : Stage → ℕ → ℕ → Type 0
-IsCounted Known before after = after ≡ min (before + 1) (2 ^ 64 - 1)
-IsCounted (Listed s pool) before after = after ≡ min (before + 1) (2 ^ 64 - 1)
-IsCounted _ before after = Unit {0}
-
 -- the refusals of a start
 abbrev pub IsStartRefusal : Refusal → Type 0
 IsStartRefusal NoDomain = Unit {0}

@@ -1,5 +1,5 @@
 // Reading the text of a master domain.
-ghost use Rattle.std.specs.Prelude.{◌≡◌, IfErr, IfOk};
+ghost use Rattle.std.specs.Prelude.{◌≡◌, ◌+◌, ◌-◌, ◌^◌, min, IfErr, IfOk};
 ghost use Rattle.shared_disk.specs.Calls.{Told};
 ghost use Rattle.shared_disk.specs.Step.{ResultCounts};
 ghost use Rattle.shared_disk.specs.Refusal.{IsRisen};
@@ -47,6 +47,7 @@ pub(crate) fn read_master<D: SharedDisk>(
     sd: Id,
 ) -> Result<DomainRecord, Refusal>
     ensures counts { ResultCounts (D.faults disk.old) (D.faults disk.new) (D.calls disk.old) (D.calls disk.new) result }
+    ensures counted { D.calls disk.new ≡ min (D.calls disk.old + 1) (2 ^ 64 - 1) }
     ensures refusals { IfErr result IsTextRefusal }
     ensures valid { IfOk result IsValid }
     ensures master { IfOk result (λ domain. domain.role ≡ Master) }

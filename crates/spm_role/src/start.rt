@@ -52,7 +52,7 @@ impl SpmStart {
     ghost use Rattle.lease_area.specs.declared.sector.Sector.TheVariants.{Lease as Named};
     ghost use Rattle.spm_role.specs.Spm.{role_of};
     ghost use Rattle.sd_names.specs.declared.refusal.Refusal.TheVariants.{OutOfMemory};
-    ghost use Rattle.spm_role.specs.Start.{Checks, EndsWith, HasRead, IsAllowed, IsAt, IsCounted, IsInListed, IsInSeen, IsMade, IsManager, IsManagerOf, IsSameStart, IsStartRefusal, Lists, LooksAt, StartsBy, TakesRole, domain_of, lver_of, prev_of, read_of, stage_of, start_left};
+    ghost use Rattle.spm_role.specs.Start.{Checks, EndsWith, HasRead, IsAllowed, IsAt, IsInListed, IsInSeen, IsMade, IsManager, IsManagerOf, IsSameStart, IsStartRefusal, Lists, LooksAt, StartsBy, TakesRole, domain_of, lver_of, prev_of, read_of, stage_of, start_left};
     ghost use Rattle.spm_role.specs.Master.{IsTextRefusal};
 
     /// The start of a manager of the pool whose master is the domain `sd`, from the owner `prev` of its sector 0, 0 for
@@ -85,7 +85,7 @@ impl SpmStart {
         disk: &mut D,
     ) -> Turn<SpmStart, Spm, ()>
         ensures counts { StepCounts (D.faults disk.old) (D.faults disk.new) (D.calls disk.old) (D.calls disk.new) result }
-        ensures counted { IsCounted (stage_of self) (D.calls disk.old) (D.calls disk.new) }
+        ensures counted { D.calls disk.new ≡ min (D.calls disk.old + 1) (2 ^ 64 - 1) }
         ensures refusals { EndsOnlyBy IsStartRefusal result }
         ensures keeps { NearsEnd (IsSameStart self) start_left (start_left self) result }
         ensures manager { EndsWith (IsManager self host) result }
@@ -130,6 +130,7 @@ impl SpmStart {
     // Whether the domain's text is a master's.
     fn check<D: SharedDisk>(self, host: HostId, disk: &mut D) -> Turn<SpmStart, Spm, ()>
         ensures counts { StepCounts (D.faults disk.old) (D.faults disk.new) (D.calls disk.old) (D.calls disk.new) result }
+        ensures counted { D.calls disk.new ≡ min (D.calls disk.old + 1) (2 ^ 64 - 1) }
         ensures next { MatchTurn result (IsAt self Stage.Known) (λ _. ⊥) (λ _ refusal. IsTextRefusal refusal) }
         ensures content { Told (D.content disk.old) (D.content disk.new) (Checks self host (D.faults disk.new) result) }
     {
@@ -161,6 +162,7 @@ impl SpmStart {
     ) -> Turn<SpmStart, Spm, ()>
         requires asked { (owner_of sector ≡ prev_of self) × (version_of sector ≡ lver_of self) }
         ensures counts { StepCounts (D.faults disk.old) (D.faults disk.new) (D.calls disk.old) (D.calls disk.new) result }
+        ensures counted { D.calls disk.new ≡ min (D.calls disk.old + 1) (2 ^ 64 - 1) }
         ensures next { MatchTurn result (IsInListed self sector) (λ _. ⊥) (λ _ refusal. IsTextRefusal refusal) }
         ensures content { Told (D.content disk.old) (D.content disk.new) (Lists self sector host (D.faults disk.new) result) }
     {

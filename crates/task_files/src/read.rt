@@ -1,5 +1,5 @@
 // Reading a task's file.
-ghost use Rattle.std.specs.Prelude.{IfErr, IfOk, IfSome};
+ghost use Rattle.std.specs.Prelude.{◌≡◌, ◌+◌, ◌-◌, ◌^◌, min, IfErr, IfOk, IfSome};
 ghost use Rattle.shared_disk.specs.Calls.{Told};
 ghost use Rattle.shared_disk.specs.Step.{ResultCounts};
 ghost use Rattle.task_files.specs.Read.{IsReadRefusal, ReadsTask};
@@ -22,6 +22,7 @@ pub fn read_task<D: SharedDisk>(
     task: Id,
 ) -> Result<Option<Task>, Refusal>
     ensures counts { ResultCounts (D.faults disk.old) (D.faults disk.new) (D.calls disk.old) (D.calls disk.new) result }
+    ensures counted { D.calls disk.new ≡ min (D.calls disk.old + 1) (2 ^ 64 - 1) }
     ensures refusals { IfErr result (IsReadRefusal task) }
     ensures valid { IfOk result (λ found. IfSome found IsValid) }
     ensures content { Told (D.content disk.old) (D.content disk.new) (ReadsTask host (task_place sd task) task (D.faults disk.new) result) }

@@ -1,5 +1,5 @@
 // Writing a task's text into its file: a new file beside it is written and synced, then takes its name.
-ghost use Rattle.std.specs.Prelude.{◌≡◌, ◌≢◌, length};
+ghost use Rattle.std.specs.Prelude.{◌≡◌, ◌≢◌, ◌+◌, ◌-◌, ◌^◌, min, length};
 ghost use Rattle.shared_disk.specs.Calls.{Told};
 ghost use Rattle.shared_disk.specs.Step.{EndsOnlyBy, IsDiskRefusal, NearsEnd, StepCounts};
 ghost use Rattle.task_store.specs.TaskText.{IsTask};
@@ -54,6 +54,7 @@ impl TaskWrite {
         requires task { IsTask task.now }
         requires same { IsFor task.now self }
         ensures counts { StepCounts (D.faults disk.old) (D.faults disk.new) (D.calls disk.old) (D.calls disk.new) result }
+        ensures counted { D.calls disk.new ≡ min (D.calls disk.old + 1) (2 ^ 64 - 1) }
         ensures refusals { EndsOnlyBy IsDiskRefusal result }
         ensures keeps { NearsEnd (IsSameWrite self) write_left (write_left self) result }
         ensures call { Told (D.content disk.old) (D.content disk.new) (CallOf self host (D.faults disk.new) task.now result) }

@@ -1,5 +1,5 @@
 // Reading a small file whole.
-ghost use Rattle.std.specs.Prelude.{◌≡◌, ◌≤◌, length, take, IfErr, IfOk};
+ghost use Rattle.std.specs.Prelude.{◌≡◌, ◌≤◌, ◌+◌, ◌-◌, ◌^◌, min, length, take, IfErr, IfOk};
 ghost use Rattle.shared_disk.specs.Calls.{Told};
 ghost use Rattle.shared_disk.specs.Step.{IsDiskRefusal, ResultCounts};
 ghost use Rattle.whole_file.specs.Read.{IsShort, ReadsFront, ReadsText};
@@ -33,6 +33,7 @@ pub fn read_text<D: SharedDisk>(
     into: &mut [u8; ROOM],
 ) -> Result<Text, Refusal>
     ensures counts { ResultCounts (D.faults disk.old) (D.faults disk.new) (D.calls disk.old) (D.calls disk.new) result }
+    ensures counted { D.calls disk.new ≡ min (D.calls disk.old + 1) (2 ^ 64 - 1) }
     ensures refusals { IfErr result IsDiskRefusal }
     ensures short { IfOk result IsShort }
     ensures call { Told (D.content disk.old) (D.content disk.new) (ReadsFront host place (D.faults disk.new) into.old into.new result) }

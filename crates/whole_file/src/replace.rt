@@ -1,5 +1,5 @@
 // Replacing a file's text: a new file under another name is written and synced, then takes the target's name.
-ghost use Rattle.std.specs.Prelude.{◌≡◌, ◌≢◌, ◌+◌, ◌-◌, ◌++◌, ◌≤◌, ◌<◌, length, replicate};
+ghost use Rattle.std.specs.Prelude.{◌≡◌, ◌≢◌, ◌+◌, ◌-◌, ◌^◌, ◌++◌, ◌≤◌, ◌<◌, min, length, replicate};
 ghost use Rattle.sd_names.specs.Turn.{MatchTurn};
 ghost use Rattle.shared_disk.specs.Calls.{Told};
 ghost use Rattle.whole_file.specs.Text.{padded, sectors_for};
@@ -68,6 +68,7 @@ impl Replace {
     ) -> Turn<Replace, (), ()>
         requires same { length text.now ≡ length_of self }
         ensures counts { StepCounts (D.faults disk.old) (D.faults disk.new) (D.calls disk.old) (D.calls disk.new) result }
+        ensures counted { D.calls disk.new ≡ min (D.calls disk.old + 1) (2 ^ 64 - 1) }
         ensures refusals { EndsOnlyBy IsDiskRefusal result }
         ensures keeps { NearsEnd (IsSameReplace self) replace_left (replace_left self) result }
         ensures call { Told (D.content disk.old) (D.content disk.new) (CallOf (stage_of self) self host (D.faults disk.new) text.now result) }
@@ -113,6 +114,7 @@ impl Replace {
     // What an earlier attempt left under the volatile name is removed.
     fn clear<D: SharedDisk>(self, host: HostId, disk: &mut D) -> Turn<Replace, (), ()>
         ensures counts { StepCounts (D.faults disk.old) (D.faults disk.new) (D.calls disk.old) (D.calls disk.new) result }
+        ensures counted { D.calls disk.new ≡ min (D.calls disk.old + 1) (2 ^ 64 - 1) }
         ensures next { MatchTurn result (IsAt self Stage.Cleared) (λ _. ⊥) (λ _ refusal. IsDiskRefusal refusal) }
         ensures content { Told (D.content disk.old) (D.content disk.new) (Clears self (D.faults disk.new) result) }
     {
@@ -125,6 +127,7 @@ impl Replace {
     // The volatile file is made, with room for the text.
     fn create<D: SharedDisk>(self, host: HostId, disk: &mut D) -> Turn<Replace, (), ()>
         ensures counts { StepCounts (D.faults disk.old) (D.faults disk.new) (D.calls disk.old) (D.calls disk.new) result }
+        ensures counted { D.calls disk.new ≡ min (D.calls disk.old + 1) (2 ^ 64 - 1) }
         ensures next { MatchTurn result (IsAt self Stage.Created) (λ _. ⊥) (λ _ refusal. IsDiskRefusal refusal) }
         ensures content { Told (D.content disk.old) (D.content disk.new) (Makes self host (D.faults disk.new) result) }
     {
@@ -140,6 +143,7 @@ impl Replace {
         requires same { length text.now ≡ length_of self }
         requires some { 0 < length text.now }
         ensures counts { StepCounts (D.faults disk.old) (D.faults disk.new) (D.calls disk.old) (D.calls disk.new) result }
+        ensures counted { D.calls disk.new ≡ min (D.calls disk.old + 1) (2 ^ 64 - 1) }
         ensures next { MatchTurn result (IsAt self Stage.Written) (λ _. ⊥) (λ _ refusal. IsDiskRefusal refusal) }
         ensures content { Told (D.content disk.old) (D.content disk.new) (Writes self host (D.faults disk.new) text.now result) }
     {
@@ -154,6 +158,7 @@ impl Replace {
     // The text is put onto the medium.
     fn sync<D: SharedDisk>(self, host: HostId, disk: &mut D) -> Turn<Replace, (), ()>
         ensures counts { StepCounts (D.faults disk.old) (D.faults disk.new) (D.calls disk.old) (D.calls disk.new) result }
+        ensures counted { D.calls disk.new ≡ min (D.calls disk.old + 1) (2 ^ 64 - 1) }
         ensures next { MatchTurn result (IsAt self Stage.Synced) (λ _. ⊥) (λ _ refusal. IsDiskRefusal refusal) }
         ensures content { Told (D.content disk.old) (D.content disk.new) (SyncsText self host (D.faults disk.new) result) }
     {
@@ -166,6 +171,7 @@ impl Replace {
     // The volatile file takes the target's name.
     fn rename<D: SharedDisk>(self, host: HostId, disk: &mut D) -> Turn<Replace, (), ()>
         ensures counts { StepCounts (D.faults disk.old) (D.faults disk.new) (D.calls disk.old) (D.calls disk.new) result }
+        ensures counted { D.calls disk.new ≡ min (D.calls disk.old + 1) (2 ^ 64 - 1) }
         ensures last { MatchTurn result (λ _. ⊥) (λ _. Unit {0}) (λ _ refusal. IsDiskRefusal refusal) }
         ensures content { Told (D.content disk.old) (D.content disk.new) (TakesName self (D.faults disk.new) result) }
     {
