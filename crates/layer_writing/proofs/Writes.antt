@@ -4,19 +4,21 @@ use Rattle.std.specs.Prelude.{◌==◌, ◌&&◌, ◌||◌}
 use Rattle.sd_names.specs.declared.id.Id.{Id}
 use Rattle.shared_disk.specs.Calls.{sectors_in, wrote}
 use Rattle.shared_disk.specs.Content.{File, seen}
-use Rattle.shared_disk.specs.Crash.{IsAlone, IsFileOutcome, OnEach}
+use Rattle.shared_disk.specs.Crash.{IsAlone, IsFileOutcome, IsLaidOver, OnEach}
 use Rattle.shared_disk.specs.WellFormed.{IsWellFormedFile}
 use Rattle.shared_disk.proofs.Outcomes.{write_file}
 use Rattle.qcow_format.specs.Name.{backing_id}
+use Rattle.qcow_format.specs.declared.entry.Entry.TheVariants.{Data, Zero}
 use Rattle.qcow_format.specs.declared.header.Header.{Header}
 use Rattle.image_model.specs.File as image
 use Rattle.image_model.specs.File.{file_of, sector_in}
-use Rattle.image_model.specs.Layer.{block_place, block_span, count_of, is_used}
+use Rattle.image_model.specs.Layer.{Tables, block_place, block_span, count_of, entries, entry_at, is_used}
 use Rattle.image_model.specs.Soundness.{IsSound, layer_header}
-use Rattle.layer_laws.specs.Laws.{IsUnnamed, SameContent, SameOutside, layer}
-use Rattle.layer_laws.proofs.Frames.{frame}
+use Rattle.layer_laws.specs.Laws.{IsUnnamed, Overwritten, SameContent, SameOutside, entry_position, layer}
+use Rattle.layer_laws.proofs.Frames.{frame, not_first as not_first_by, overwrite, refill}
 use Rattle.layer_laws.proofs.Heads.{parent_kept}
-use Rattle.layer_laws.proofs.Sound.{clean_of, header_name, shape_of}
+use Rattle.layer_laws.proofs.Positions.{l2_late}
+use Rattle.layer_laws.proofs.Sound.{clean_of, data_at, header_name, shape_of, zero_at}
 use Rattle.layer_walk.specs.Marks.{map_size}
 use Rattle.qcow_layer.specs.Knowing.{mapped}
 use Rattle.qcow_layer.specs.Mapping.{IsSameButMap}
@@ -85,30 +87,41 @@ facts_moved l m host f same facts =
 pub facts_left : (l : Layer) (host : ℕ) (f : File) → FactsOf l host f → IsLeft l host f
 facts_left l host f facts = record { alone = facts.alone; made = facts.made; sound = λ g out. (facts.each g out).same.sound }
 
+-- the position of an entry isn't the first, which names the header
+behind_first : (t : Tables) (k : ℕ) → entry_position t k ≢ 0
+behind_first t k e = omega (arith, e, l2_late t (k / entries t) (k % entries t))
+
 -- ---- a write that keeps each file that is like the one that the host sees
 
 module _ (h : Header) (capacity greatest size room : ℕ) (parent : Option Id) (host at : ℕ) (bytes : List ℕ) (f : File) (formed : IsWellFormedFile f)
     (facts : Facts h capacity greatest size room parent host f) where
+  -- each file that is like the one that the host sees stays so, and this holds of it before and after
+  abbrev pub KeepsBy : (image.File → image.File → Type 0) → Type 0
+  KeepsBy R = (s s' : ℕ → List ℕ) → ((k : ℕ) → length (s k) ≡ 512) → IsLike h capacity (as_seen host f) (file_of f.size s) → LaysPiece at bytes s s'
+      → IsLike h capacity (file_of f.size s) (file_of f.size s') × R (file_of f.size s) (file_of f.size s')
+
   abbrev pub Keeps : Type 0
   Keeps = (s s' : ℕ → List ℕ) → ((k : ℕ) → length (s k) ≡ 512) → IsLike h capacity (as_seen host f) (file_of f.size s) → LaysPiece at bytes s s' → IsKept h capacity (file_of f.size s) (file_of f.size s')
 
   like_seen : IsLike h capacity (as_seen host f) (as_seen host f)
   like_seen = like_itself h capacity (as_seen host f) facts.header facts.sound
 
-  module _ (did : ℕ → Bool) (keeps : Keeps) where
+  module _ (did : ℕ → Bool) (R : image.File → image.File → Type 0) (keeps : KeepsBy R) where
     abbrev f' : File
     f' = wrote did host at bytes f
 
-    pub seen_kept : IsKept h capacity (as_seen host f) (as_seen host f')
-    seen_kept = keeps (seen host f) (seen host f') (seen_lengths host f formed) like_seen (seen_laid did host at bytes f)
+    pub seen_by : IsLike h capacity (as_seen host f) (as_seen host f') × R (as_seen host f) (as_seen host f')
+    seen_by = keeps (seen host f) (seen host f') (seen_lengths host f formed) like_seen (seen_laid did host at bytes f)
 
-    record From (g : File) : Type 0 where
-      old : File
-      outcome : IsFileOutcome f old
-      like : IsLike h capacity (as_seen host f) (on_medium old)
-      kept : IsKept h capacity (on_medium old) (on_medium g)
+    -- an outcome comes from one from before, over which the piece is laid
+    pub record From (g : File) : Type 0 where
+      pub old : File
+      pub outcome : IsFileOutcome f old
+      pub laid : IsLaidOver did at bytes old g
+      pub like : IsLike h capacity (as_seen host f) (on_medium old)
+      pub kept : IsLike h capacity (on_medium old) (on_medium g) × R (on_medium old) (on_medium g)
 
-    from : (g : File) → IsFileOutcome f' g → From g
+    pub from : (g : File) → IsFileOutcome f' g → From g
     from g out =
         let w = write_file did host at bytes f g out in
         let o : File = w.0 in
@@ -118,28 +131,37 @@ module _ (h : Header) (capacity greatest size room : ℕ) (parent : Option Id) (
         record {
           old = o;
           outcome = w.1;
+          laid = w.2;
           like = like;
-          kept = subst (λ n. IsKept h capacity (file_of n o.stable) (on_medium g)) (sym w.1.size) (subst (λ n. IsKept h capacity (file_of f.size o.stable) (file_of n g.stable)) (sym out.size) kept);
+          kept = subst (λ n. IsLike h capacity (file_of n o.stable) (on_medium g) × R (file_of n o.stable) (on_medium g)) (sym w.1.size)
+              (subst (λ n. IsLike h capacity (file_of f.size o.stable) (file_of n g.stable) × R (file_of f.size o.stable) (file_of n g.stable)) (sym out.size) kept);
         }
 
-    pub facts_after : Facts h capacity greatest size room parent host f'
-    facts_after = record {
+    pub facts_by : Facts h capacity greatest size room parent host f'
+    facts_by = record {
       alone = alone_writes did host at bytes f facts.alone;
       made = facts.made;
-      header = seen_kept.like.same.header;
-      parent_is = facts.parent_is ∙ sym seen_kept.like.parent;
-      sound = seen_kept.like.same.sound;
+      header = seen_by.0.same.header;
+      parent_is = facts.parent_is ∙ sym seen_by.0.parent;
+      sound = seen_by.0.same.sound;
       long = facts.long;
       fits = facts.fits;
       map = facts.map;
       whole = facts.whole;
       each = λ g out. let w = from g out in
-          like_through h capacity (as_seen host f') (as_seen host f) (on_medium g) (like_back h capacity (as_seen host f) (as_seen host f') facts.header facts.sound seen_kept.like)
-          (like_through h capacity (as_seen host f) (on_medium w.old) (on_medium g) w.like w.kept.like);
+          like_through h capacity (as_seen host f') (as_seen host f) (on_medium g) (like_back h capacity (as_seen host f) (as_seen host f') facts.header facts.sound seen_by.0)
+          (like_through h capacity (as_seen host f) (on_medium w.old) (on_medium g) w.like w.kept.0);
     }
 
-    pub comes : ComesBy (HoldSame h capacity) f f'
-    comes g out = let w = from g out in (w.old, w.outcome, kept_holds h capacity (on_medium w.old) (on_medium g) w.like.same.header w.kept)
+  module _ (did : ℕ → Bool) (keeps : Keeps) where
+    by : KeepsBy (IsKept h capacity)
+    by s s' long like laid = let kept = keeps s s' long like laid in (kept.like, kept)
+
+    pub facts_after : Facts h capacity greatest size room parent host (wrote did host at bytes f)
+    facts_after = facts_by did (IsKept h capacity) by
+
+    pub comes : ComesBy (HoldSame h capacity) f (wrote did host at bytes f)
+    comes g out = let w = from did (IsKept h capacity) by g out in (w.old, w.outcome, kept_holds h capacity (on_medium w.old) (on_medium g) w.like.same.header w.kept.1)
 
   -- ---- the sectors of a cluster that nothing names
 
@@ -171,10 +193,45 @@ module _ (h : Header) (capacity greatest size room : ℕ) (parent : Option Id) (
       pub unnamed_seen : (did : ℕ → Bool) → SameContent h capacity (as_seen host f) (as_seen host (wrote did host at bytes f))
       unnamed_seen did = unnamed_content (seen host f) (seen host (wrote did host at bytes f)) (seen_lengths host f formed) like_seen (seen_laid did host at bytes f)
 
+    -- ---- the sectors of a cluster that an entry of zeros keeps, or that is data
+
+    module _ (k : ℕ) where
+      late : p ≢ 0 → (s s' : ℕ → List ℕ) → ((k : ℕ) → length (s k) ≡ 512) → IsLike h capacity (as_seen host f) (file_of f.size s) → LaysPiece at bytes s s'
+          → backing_id h (file_of f.size s').head ≡ backing_id h (file_of f.size s).head
+      late some s s' long like laid = parent_kept f.size p capacity s s' h (λ k lt. long k) like.same.header begins some (outside s s' laid)
+
+      module _ (zero : entry_at (layer h (as_seen host f)) k ≡ Zero p) (some : p ≢ 0) where
+        zero_content : (s s' : ℕ → List ℕ) → ((k : ℕ) → length (s k) ≡ 512) → IsLike h capacity (as_seen host f) (file_of f.size s) → LaysPiece at bytes s s'
+            → SameContent h capacity (file_of f.size s) (file_of f.size s')
+        zero_content s s' long like laid =
+            let here = like.same.entries k ∙ zero in
+            let is = zero_at h (file_of f.size s) capacity (shape_of (file_of f.size s) capacity h like.same.header) (clean_of (file_of f.size s) capacity h like.same.header like.same.sound) k p some here in
+            refill f.size capacity p s s' h (λ i lt. long i) like.same.header like.same.sound begins (outside s s' laid) k is.name here
+
+        pub zero_keeps : Keeps
+        zero_keeps s s' long like laid = let content = zero_content s s' long like laid in record {
+          like = record { same = content.same; parent = late some s s' long like laid };
+          bytes = content.bytes;
+        }
+
+        pub zero_seen : (did : ℕ → Bool) → SameContent h capacity (as_seen host f) (as_seen host (wrote did host at bytes f))
+        zero_seen did = zero_content (seen host f) (seen host (wrote did host at bytes f)) (seen_lengths host f formed) like_seen (seen_laid did host at bytes f)
+
+      module _ (held : entry_at (layer h (as_seen host f)) k ≡ Data p) where
+        pub data_keeps : KeepsBy (Overwritten h capacity k p)
+        data_keeps s s' long like laid =
+            let here = like.same.entries k ∙ held in
+            let is = data_at h (file_of f.size s) capacity (shape_of (file_of f.size s) capacity h like.same.header) (clean_of (file_of f.size s) capacity h like.same.header like.same.sound) k p here in
+            let over = overwrite f.size capacity p s s' h (λ i lt. long i) like.same.header like.same.sound begins (outside s s' laid) k is.name here in
+            let some = not_first_by f.size capacity p s s' h (λ i lt. long i) like.same.header like.same.sound begins (outside s s' laid) (entry_position (layer h (file_of f.size s)) k) is.name
+                (behind_first (layer h (file_of f.size s)) k) in
+            (record { same = over.same; parent = late some s s' long like laid }, over)
+
 -- ---- which clusters are used
 
-pub used_same : (h : Header) (capacity : ℕ) (f g : image.File) → SameContent h capacity f g → (c : ℕ) → is_used (layer h g) c ≡ is_used (layer h f) c
+pub used_same : (h : Header) (capacity : ℕ) (f g : image.File) → ((x : ℕ) → count_of (layer h g) x ≡ count_of (layer h f) x) → ((k : ℕ) → block_place (layer h g) k ≡ block_place (layer h f) k)
+    → (c : ℕ) → is_used (layer h g) c ≡ is_used (layer h f) c
 unfolding is_used
-used_same h capacity f g content c =
-    ap (λ (n : ℕ). nat_lt 0 n || (c % block_span (layer h f) == 0 && block_place (layer h g) (c / block_span (layer h f)) == 0)) (content.counts c)
-    ∙ ap (λ (n : ℕ). nat_lt 0 (count_of (layer h f) c) || (c % block_span (layer h f) == 0 && n == 0)) (content.same.blocks (c / block_span (layer h f)))
+used_same h capacity f g counts blocks c =
+    ap (λ (n : ℕ). nat_lt 0 n || (c % block_span (layer h f) == 0 && block_place (layer h g) (c / block_span (layer h f)) == 0)) (counts c)
+    ∙ ap (λ (n : ℕ). nat_lt 0 (count_of (layer h f) c) || (c % block_span (layer h f) == 0 && n == 0)) (blocks (c / block_span (layer h f)))

@@ -1,8 +1,8 @@
 -- What two files of a layer have in common, and how the outcomes of a file come from those that it had before.
-use Rattle.std.specs.Prelude.{◌≡◌, ◌⊎◌, ℕ, ◌+◌, ◌*◌, ◌/◌, ◌%◌, ◌<◌, ◌≤◌, ◌==◌, if◌then◌else◌, List, None}
+use Rattle.std.specs.Prelude.{◌≡◌, ◌⊎◌, ℕ, ◌+◌, ◌*◌, ◌/◌, ◌%◌, ◌<◌, ◌≤◌, ◌==◌, if◌then◌else◌, Bool, List, None, Ok}
 use Rattle.shared_disk.specs.Calls.{sectors_in}
 use Rattle.shared_disk.specs.Content.{File, sector_of, seen}
-use Rattle.shared_disk.specs.Crash.{IsAlone, IsFileOutcome, OnEach}
+use Rattle.shared_disk.specs.Crash.{IsAlone, IsFileOutcome, IsLaidOver, OnEach}
 use Rattle.qcow_format.specs.Bytes.{number}
 use Rattle.qcow_format.specs.Name.{backing_id}
 use Rattle.qcow_format.specs.declared.header.Header.{Header}
@@ -10,7 +10,7 @@ use Rattle.image_model.specs.File as image
 use Rattle.image_model.specs.File.{file_of}
 use Rattle.image_model.specs.Layer.{Tables, cluster_size, count_of, entry_at, own_byte}
 use Rattle.image_model.specs.Soundness.{layer_header}
-use Rattle.layer_laws.specs.Laws.{IsUnnamed, SameLayer, layer}
+use Rattle.layer_laws.specs.Laws.{IsUnnamed, Overwritten, SameLayer, layer}
 
 -- a file by its numbers: what is on the medium, as on an outcome, and what a host sees
 abbrev pub on_medium : File → image.File
@@ -63,6 +63,18 @@ pub record IsBetween (host : ℕ) (old new : ℕ → List ℕ) (f : File) : Type
   pub made : f.fresh ≡ None
   pub sees : seen host f ≡ new
   pub each : OnEach f (IsEither old new)
+
+-- ---- a cluster of data is written
+
+-- An outcome comes from one from before, over which the piece is laid, wholly or in part. The layer is the same but for bytes of
+-- cluster k of the virtual disk, which are those that stand at its place now.
+pub record IsRewritten (h : Header) (capacity k place : ℕ) (did : ℕ → Bool) (at : ℕ) (bytes : List ℕ) (f g : File) : Type 0 where
+  pub old : File
+  pub outcome : IsFileOutcome f old
+  pub laid : IsLaidOver did at bytes old g
+  pub header : layer_header (on_medium old) capacity ≡ Ok h
+  pub parent : backing_id h (on_medium g).head ≡ backing_id h (on_medium old).head
+  pub over : Overwritten h capacity k place (on_medium old) (on_medium g)
 
 -- ---- counts are written
 

@@ -5,15 +5,16 @@ ghost use Rattle.shared_disk.specs.Content.{Content, File, sector_of, seen};
 ghost use Rattle.shared_disk.specs.Crash.{DownLeaves, IsAlone, IsSettled, OnEach};
 ghost use Rattle.shared_disk.specs.SectorCalls.{IsGrown};
 ghost use Rattle.shared_disk.specs.WellFormed.{IsWellFormed, IsWellFormedFile};
+ghost use Rattle.qcow_format.specs.declared.entry.Entry.TheVariants.{Data, Zero};
 ghost use Rattle.qcow_format.specs.declared.header.Header.{Header};
 ghost use Rattle.image_model.specs.File as image;
-ghost use Rattle.image_model.specs.Layer.{block_place};
-ghost use Rattle.layer_laws.specs.Laws.{BlockRecounted, IsUnnamed, SameContent, layer};
+ghost use Rattle.image_model.specs.Layer.{block_place, entry_at};
+ghost use Rattle.layer_laws.specs.Laws.{BlockRecounted, IsUnnamed, Overwritten, SameContent, layer};
 ghost use Rattle.qcow_layer.specs.Knowing.{KnowsLayerOn, KnowsNumbers};
 ghost use Rattle.qcow_layer.specs.Mapping.{IsSameButMap};
 ghost use Rattle.qcow_layer.specs.Opening.{capacity_kept, header_kept, place_kept};
 ghost use Rattle.qcow_layer.specs.declared.layer.Layer.{Layer};
-ghost use Rattle.layer_writing.specs.Holding.{ComesBy, HoldSame, IsBetween, IsEither, IsInCluster, IsKept, IsSpare, RaisesCounts, as_seen, on_medium, with_sector};
+ghost use Rattle.layer_writing.specs.Holding.{ComesBy, HoldSame, IsBetween, IsEither, IsInCluster, IsKept, IsRewritten, IsSpare, RaisesCounts, as_seen, on_medium, with_sector};
 ghost use Rattle.layer_writing.specs.Writer.{IsLeft, IsSameFile, KnowsWriter, KnowsWriterOn, MapTells, seen_tables};
 
 /// A layer that is known is known to a writer where nothing in its file is unsynced and the file is of whole clusters.
@@ -50,6 +51,33 @@ pub fn unnamed_clusters_may_be_written()
     ensures seen { (l : Layer) (did : ℕ → Bool) (host at place : ℕ) (bytes : List ℕ) (f : File) → IsWellFormedFile f → KnowsWriter l host f
         → IsInCluster (2 ^ (header_kept l).cluster_bits) place at bytes → IsUnnamed (seen_tables l host f) (capacity_kept l) place
         → SameContent (header_kept l) (capacity_kept l) (as_seen host f) (as_seen host (wrote did host at bytes f)) }
+{}
+
+/// Sectors of a cluster that an entry of zeros keeps may be written, wholly or in part: what the writer knows stays known,
+/// each outcome holds what one from before held, and as the host sees it nothing else has changed.
+pub fn kept_clusters_may_be_written()
+    ensures knows { (l : Layer) (did : ℕ → Bool) (host at k place : ℕ) (bytes : List ℕ) (f : File) → IsWellFormedFile f → KnowsWriter l host f
+        → IsInCluster (2 ^ (header_kept l).cluster_bits) place at bytes → entry_at (seen_tables l host f) k ≡ Zero place → place ≢ 0 → KnowsWriter l host (wrote did host at bytes f) }
+    ensures comes { (l : Layer) (did : ℕ → Bool) (host at k place : ℕ) (bytes : List ℕ) (f : File) → IsWellFormedFile f → KnowsWriter l host f
+        → IsInCluster (2 ^ (header_kept l).cluster_bits) place at bytes → entry_at (seen_tables l host f) k ≡ Zero place → place ≢ 0
+        → ComesBy (HoldSame (header_kept l) (capacity_kept l)) f (wrote did host at bytes f) }
+    ensures seen { (l : Layer) (did : ℕ → Bool) (host at k place : ℕ) (bytes : List ℕ) (f : File) → IsWellFormedFile f → KnowsWriter l host f
+        → IsInCluster (2 ^ (header_kept l).cluster_bits) place at bytes → entry_at (seen_tables l host f) k ≡ Zero place → place ≢ 0
+        → SameContent (header_kept l) (capacity_kept l) (as_seen host f) (as_seen host (wrote did host at bytes f)) }
+{}
+
+/// Sectors of a cluster of data may be written, wholly or in part: what the writer knows stays known. Each outcome comes from
+/// one from before over which these sectors are laid, and on it as in what the host sees only bytes of that cluster of the
+/// virtual disk are others.
+pub fn data_clusters_may_be_written()
+    ensures knows { (l : Layer) (did : ℕ → Bool) (host at k place : ℕ) (bytes : List ℕ) (f : File) → IsWellFormedFile f → KnowsWriter l host f
+        → IsInCluster (2 ^ (header_kept l).cluster_bits) place at bytes → entry_at (seen_tables l host f) k ≡ Data place → KnowsWriter l host (wrote did host at bytes f) }
+    ensures comes { (l : Layer) (did : ℕ → Bool) (host at k place : ℕ) (bytes : List ℕ) (f : File) → IsWellFormedFile f → KnowsWriter l host f
+        → IsInCluster (2 ^ (header_kept l).cluster_bits) place at bytes → entry_at (seen_tables l host f) k ≡ Data place
+        → OnEach (wrote did host at bytes f) (IsRewritten (header_kept l) (capacity_kept l) k place did at bytes f) }
+    ensures seen { (l : Layer) (did : ℕ → Bool) (host at k place : ℕ) (bytes : List ℕ) (f : File) → IsWellFormedFile f → KnowsWriter l host f
+        → IsInCluster (2 ^ (header_kept l).cluster_bits) place at bytes → entry_at (seen_tables l host f) k ≡ Data place
+        → Overwritten (header_kept l) (capacity_kept l) k place (as_seen host f) (as_seen host (wrote did host at bytes f)) }
 {}
 
 /// Counts of a block that is there may be raised, by whole sectors, wholly or in part: each outcome holds what one from
