@@ -1,5 +1,5 @@
 // Making the file of a new layer.
-ghost use Rattle.std.specs.Prelude.{◌≡◌, ◌%◌, ◌/◌, ◌^◌, ◌≤◌};
+ghost use Rattle.std.specs.Prelude.{◌≡◌, ◌%◌, ◌/◌, ◌^◌, ◌≤◌, ◌+◌, ◌-◌, min};
 ghost use Rattle.shared_disk.specs.Calls.{IsAligned, Told};
 ghost use Rattle.shared_disk.specs.Step.{EndsOnlyBy, IsDiskRefusal, NearsEnd, StepCounts};
 ghost use Rattle.layer_creating.specs.New.{IsCapacity, IsLength};
@@ -64,6 +64,7 @@ impl Creating {
     /// there, and with `Exists` where something stands at the place, which then stays.
     pub fn step<D: SharedDisk>(self, host: HostId, disk: &mut D) -> Turn<Creating, (), ()>
         ensures counts { StepCounts (D.faults disk.old) (D.faults disk.new) (D.calls disk.old) (D.calls disk.new) result }
+        ensures counted { D.calls disk.new ≡ min (D.calls disk.old + 1) (2 ^ 64 - 1) }
         ensures refusals { EndsOnlyBy IsDiskRefusal result }
         ensures falls { NearsEnd (IsSameMaking self) creating_left (creating_left self) result }
         ensures call { Told (D.content disk.old) (D.content disk.new) (CallOf self host (D.faults disk.new) result) }
@@ -101,6 +102,7 @@ impl Creating {
     // The file is made, with zeros.
     fn create<D: SharedDisk>(self, host: HostId, disk: &mut D) -> Turn<Creating, (), ()>
         ensures counts { StepCounts (D.faults disk.old) (D.faults disk.new) (D.calls disk.old) (D.calls disk.new) result }
+        ensures counted { D.calls disk.new ≡ min (D.calls disk.old + 1) (2 ^ 64 - 1) }
         ensures next { MatchTurn result (IsIn self Made.Created) (λ _. ⊥) (λ _ refusal. IsDiskRefusal refusal) }
         ensures content { Told (D.content disk.old) (D.content disk.new) (CreatesFile self host (D.faults disk.new) result) }
     {
@@ -121,6 +123,7 @@ impl Creating {
     ) -> Turn<Creating, (), ()>
         requires { IsAligned at }
         ensures counts { StepCounts (D.faults disk.old) (D.faults disk.new) (D.calls disk.old) (D.calls disk.new) result }
+        ensures counted { D.calls disk.new ≡ min (D.calls disk.old + 1) (2 ^ 64 - 1) }
         ensures next { MatchTurn result (IsIn self next) (λ _. ⊥) (λ _ refusal. IsDiskRefusal refusal) }
         ensures content { Told (D.content disk.old) (D.content disk.new) (WritesSector self host (at / 512) sector.now next (D.faults disk.new) result) }
     {
@@ -133,6 +136,7 @@ impl Creating {
     // The header is written, the last of the sectors.
     fn write_header<D: SharedDisk>(self, host: HostId, disk: &mut D) -> Turn<Creating, (), ()>
         ensures counts { StepCounts (D.faults disk.old) (D.faults disk.new) (D.calls disk.old) (D.calls disk.new) result }
+        ensures counted { D.calls disk.new ≡ min (D.calls disk.old + 1) (2 ^ 64 - 1) }
         ensures next { MatchTurn result (IsIn self Made.Headed) (λ _. ⊥) (λ _ refusal. IsDiskRefusal refusal) }
         ensures content { Told (D.content disk.old) (D.content disk.new) (WritesHeader self host (D.faults disk.new) result) }
     {
@@ -143,6 +147,7 @@ impl Creating {
     // All is put onto the medium.
     fn sync<D: SharedDisk>(self, host: HostId, disk: &mut D) -> Turn<Creating, (), ()>
         ensures counts { StepCounts (D.faults disk.old) (D.faults disk.new) (D.calls disk.old) (D.calls disk.new) result }
+        ensures counted { D.calls disk.new ≡ min (D.calls disk.old + 1) (2 ^ 64 - 1) }
         ensures last { MatchTurn result (λ _. ⊥) (λ _. Unit {0}) (λ _ refusal. IsDiskRefusal refusal) }
         ensures content { Told (D.content disk.old) (D.content disk.new) (SyncsFile self host (D.faults disk.new) result) }
     {

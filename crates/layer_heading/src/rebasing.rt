@@ -1,5 +1,5 @@
 // A layer gets another backing file.
-ghost use Rattle.std.specs.Prelude.{◌≡◌, ◌/◌, Some};
+ghost use Rattle.std.specs.Prelude.{◌≡◌, ◌/◌, Some, ◌+◌, ◌-◌, ◌^◌, min};
 ghost use Rattle.sd_names.specs.Id.{IsIdBytes};
 ghost use Rattle.shared_disk.specs.Calls.{IsAligned, Told};
 ghost use Rattle.shared_disk.specs.Step.{EndsOnlyBy, IsDiskRefusal, NearsEnd, StepCounts};
@@ -63,6 +63,7 @@ impl Rebasing {
         disk: &mut D,
     ) -> Turn<Rebasing, (), ()>
         ensures counts { StepCounts (D.faults disk.old) (D.faults disk.new) (D.calls disk.old) (D.calls disk.new) result }
+        ensures counted { D.calls disk.new ≡ min (D.calls disk.old + 1) (2 ^ 64 - 1) }
         ensures refusals { EndsOnlyBy IsDiskRefusal result }
         ensures falls { NearsEnd (IsSameRebasing self) rebasing_left (rebasing_left self) result }
         ensures layer { KeepsLayer self layer.old layer.new result }
@@ -104,6 +105,7 @@ impl Rebasing {
     ) -> Turn<Rebasing, (), ()>
         requires { IsAligned at }
         ensures counts { StepCounts (D.faults disk.old) (D.faults disk.new) (D.calls disk.old) (D.calls disk.new) result }
+        ensures counted { D.calls disk.new ≡ min (D.calls disk.old + 1) (2 ^ 64 - 1) }
         ensures next { MatchTurn result (λ r. r ≡ at_stage self next) (λ _. ⊥) (λ _ refusal. IsDiskRefusal refusal) }
         ensures content { Told (D.content disk.old) (D.content disk.new) (WritesThen layer.now host (at / 512) sector.now (D.faults disk.new) (More (at_stage self next)) result) }
     {
@@ -121,6 +123,7 @@ impl Rebasing {
         disk: &mut D,
     ) -> Turn<Rebasing, (), ()>
         ensures counts { StepCounts (D.faults disk.old) (D.faults disk.new) (D.calls disk.old) (D.calls disk.new) result }
+        ensures counted { D.calls disk.new ≡ min (D.calls disk.old + 1) (2 ^ 64 - 1) }
         ensures next { MatchTurn result (λ r. r ≡ at_stage self Stage.Synced) (λ _. ⊥) (λ _ refusal. IsDiskRefusal refusal) }
         ensures content { Told (D.content disk.old) (D.content disk.new) (SyncsThen layer.now host (D.faults disk.new) (More (at_stage self Stage.Synced)) result) }
     {
@@ -138,6 +141,7 @@ impl Rebasing {
         disk: &mut D,
     ) -> Turn<Rebasing, (), ()>
         ensures counts { StepCounts (D.faults disk.old) (D.faults disk.new) (D.calls disk.old) (D.calls disk.new) result }
+        ensures counted { D.calls disk.new ≡ min (D.calls disk.old + 1) (2 ^ 64 - 1) }
         ensures next { MatchTurn result (λ r. IsAt self r) (λ _. ⊥) (λ _ refusal. IsDiskRefusal refusal) }
         ensures content { Told (D.content disk.old) (D.content disk.new) (LaysHeader self layer.now host (D.faults disk.new) result) }
     {
@@ -159,6 +163,7 @@ impl Rebasing {
         disk: &mut D,
     ) -> Turn<Rebasing, (), ()>
         ensures counts { StepCounts (D.faults disk.old) (D.faults disk.new) (D.calls disk.old) (D.calls disk.new) result }
+        ensures counted { D.calls disk.new ≡ min (D.calls disk.old + 1) (2 ^ 64 - 1) }
         ensures last { MatchTurn result (λ _. ⊥) (λ _. Unit {0}) (λ _ refusal. IsDiskRefusal refusal) }
         ensures layer { KeepsLayer self layer.old layer.new result }
         ensures content { Told (D.content disk.old) (D.content disk.new) (SyncsThen layer.old host (D.faults disk.new) (Done tt) result) }

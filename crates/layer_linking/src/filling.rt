@@ -1,5 +1,5 @@
 // A new L2 table: zeros, then its entries, then a sync.
-ghost use Rattle.std.specs.Prelude.{◌≡◌, ◌+◌, ◌-◌, ◌%◌, ◌≤◌};
+ghost use Rattle.std.specs.Prelude.{◌≡◌, ◌+◌, ◌-◌, ◌%◌, ◌≤◌, ◌^◌, min};
 ghost use Rattle.shared_disk.specs.Calls.{Told};
 ghost use Rattle.shared_disk.specs.Step.{EndsOnlyBy, IsDiskRefusal, NearsEnd, StepCounts};
 ghost use Rattle.qcow_layer.specs.Opening.{header_kept};
@@ -52,6 +52,7 @@ pub(crate) fn zero_piece<D: SharedDisk>(
     disk: &mut D,
 ) -> Turn<Linking, (), ()>
     ensures counts { StepCounts (D.faults disk.old) (D.faults disk.new) (D.calls disk.old) (D.calls disk.new) result }
+    ensures counted { D.calls disk.new ≡ min (D.calls disk.old + 1) (2 ^ 64 - 1) }
     ensures refusals { EndsOnlyBy IsDiskRefusal result }
     ensures keeps { NearsEnd (IsSameLinking linking) (steps_left layer.now) (6 + (pieces (header_kept layer.now) - 1 - piece)) result }
     ensures content { Told (D.content disk.old) (D.content disk.new) (ZeroesPiece linking table piece layer.now host (D.faults disk.new) result) }
@@ -78,6 +79,7 @@ pub(crate) fn write_entries<D: SharedDisk>(
     disk: &mut D,
 ) -> Turn<Linking, (), ()>
     ensures counts { StepCounts (D.faults disk.old) (D.faults disk.new) (D.calls disk.old) (D.calls disk.new) result }
+    ensures counted { D.calls disk.new ≡ min (D.calls disk.old + 1) (2 ^ 64 - 1) }
     ensures refusals { EndsOnlyBy IsDiskRefusal result }
     ensures keeps { NearsEnd (IsSameLinking linking) (steps_left layer.now) 5 result }
     ensures content { Told (D.content disk.old) (D.content disk.new) (WritesEntries linking table layer.now host (D.faults disk.new) result) }
@@ -103,6 +105,7 @@ pub(crate) fn sync_table<D: SharedDisk>(
     disk: &mut D,
 ) -> Turn<Linking, (), ()>
     ensures counts { StepCounts (D.faults disk.old) (D.faults disk.new) (D.calls disk.old) (D.calls disk.new) result }
+    ensures counted { D.calls disk.new ≡ min (D.calls disk.old + 1) (2 ^ 64 - 1) }
     ensures refusals { EndsOnlyBy IsDiskRefusal result }
     ensures keeps { NearsEnd (IsSameLinking linking) (steps_left layer.now) 4 result }
     ensures content { Told (D.content disk.old) (D.content disk.new) (SyncsTable linking table layer.now host (D.faults disk.new) result) }

@@ -1,5 +1,5 @@
 // Entering clusters into an L2 table, or into a new one.
-ghost use Rattle.std.specs.Prelude.{◌≡◌, ◌≢◌, ◌/◌, ℕ, None, Some};
+ghost use Rattle.std.specs.Prelude.{◌≡◌, ◌≢◌, ◌/◌, ℕ, None, Some, ◌+◌, ◌-◌, ◌^◌, min};
 ghost use Rattle.shared_disk.specs.Calls.{Told};
 
 use crate::filling::{sync_table, write_entries, zero_piece};
@@ -31,7 +31,7 @@ pub enum Stage {
     Entered,
 }
 
-/// The linking of clusters to places of the file, in steps of at most one call of the disk. Where the L2 table is there,
+/// The linking of clusters to places of the file, in steps of one call of the disk. Where the L2 table is there,
 /// its sector is read, written with all the entries, and synced. Where there is none, a new table is written with the
 /// entries and synced, before the L1 entry that names it is written and synced.
 #[derive(Clone, Copy, Debug)]
@@ -78,7 +78,7 @@ impl Linking {
         }
     }
 
-    /// Makes at most one call of the disk. The layer is the same in each step.
+    /// Makes one call of the disk. The layer is the same in each step.
     pub fn step<D: SharedDisk>(
         self,
         host: HostId,
@@ -86,6 +86,7 @@ impl Linking {
         disk: &mut D,
     ) -> Turn<Linking, (), ()>
         ensures counts { StepCounts (D.faults disk.old) (D.faults disk.new) (D.calls disk.old) (D.calls disk.new) result }
+        ensures counted { D.calls disk.new ≡ min (D.calls disk.old + 1) (2 ^ 64 - 1) }
         ensures refusals { EndsOnlyBy IsDiskRefusal result }
         ensures layer { layer.new ≡ layer.old }
         ensures keeps { NearsEnd (IsSameLinking self) (steps_left layer.old) (steps_left layer.old self) result }

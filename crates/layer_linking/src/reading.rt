@@ -1,5 +1,5 @@
 // The sectors that a linking reads, and lays its entries in.
-ghost use Rattle.std.specs.Prelude.{◌≡◌, ◌^◌, ◌≤◌, ◌<◌};
+ghost use Rattle.std.specs.Prelude.{◌≡◌, ◌^◌, ◌≤◌, ◌<◌, ◌+◌, ◌-◌, min};
 ghost use Rattle.shared_disk.specs.Calls.{Told};
 ghost use Rattle.shared_disk.specs.Step.{EndsOnlyBy, IsDiskRefusal, NearsEnd, StepCounts};
 ghost use Rattle.qcow_layer.specs.Opening.{header_kept};
@@ -44,6 +44,7 @@ pub(crate) fn find_table<D: SharedDisk>(
     disk: &mut D,
 ) -> Turn<Linking, (), ()>
     ensures counts { StepCounts (D.faults disk.old) (D.faults disk.new) (D.calls disk.old) (D.calls disk.new) result }
+    ensures counted { D.calls disk.new ≡ min (D.calls disk.old + 1) (2 ^ 64 - 1) }
     ensures refusals { EndsOnlyBy IsDiskRefusal result }
     ensures keeps { NearsEnd (IsSameLinking linking) (steps_left layer.now) 4 result }
     ensures content { Told (D.content disk.old) (D.content disk.new) (FindsTable linking layer.now host (D.faults disk.new) result) }
@@ -72,6 +73,7 @@ pub(crate) fn lay_entries<D: SharedDisk>(
     disk: &mut D,
 ) -> Turn<Linking, (), ()>
     ensures counts { StepCounts (D.faults disk.old) (D.faults disk.new) (D.calls disk.old) (D.calls disk.new) result }
+    ensures counted { D.calls disk.new ≡ min (D.calls disk.old + 1) (2 ^ 64 - 1) }
     ensures refusals { EndsOnlyBy IsDiskRefusal result }
     ensures keeps { NearsEnd (IsSameLinking linking) (steps_left layer.now) 3 result }
     ensures content { Told (D.content disk.old) (D.content disk.new) (LaysEntries linking table layer.now host (D.faults disk.new) result) }
@@ -96,6 +98,7 @@ pub(crate) fn lay_table<D: SharedDisk>(
     disk: &mut D,
 ) -> Turn<Linking, (), ()>
     ensures counts { StepCounts (D.faults disk.old) (D.faults disk.new) (D.calls disk.old) (D.calls disk.new) result }
+    ensures counted { D.calls disk.new ≡ min (D.calls disk.old + 1) (2 ^ 64 - 1) }
     ensures refusals { EndsOnlyBy IsDiskRefusal result }
     ensures keeps { NearsEnd (IsSameLinking linking) (steps_left layer.now) 3 result }
     ensures content { Told (D.content disk.old) (D.content disk.new) (LaysTable linking table layer.now host (D.faults disk.new) result) }

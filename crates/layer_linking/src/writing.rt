@@ -1,4 +1,5 @@
 // The sector that makes all the entries at once.
+ghost use Rattle.std.specs.Prelude.{◌≡◌, ◌+◌, ◌-◌, ◌^◌, min};
 ghost use Rattle.shared_disk.specs.Calls.{Told};
 ghost use Rattle.shared_disk.specs.Step.{EndsOnlyBy, IsDiskRefusal, IsLast, NearsEnd, StepCounts};
 ghost use Rattle.layer_linking.specs.Calls.{IsSameLinking, SyncsEntered, WritesLaid, steps_left};
@@ -18,6 +19,7 @@ pub(crate) fn write_laid<D: SharedDisk>(
     disk: &mut D,
 ) -> Turn<Linking, (), ()>
     ensures counts { StepCounts (D.faults disk.old) (D.faults disk.new) (D.calls disk.old) (D.calls disk.new) result }
+    ensures counted { D.calls disk.new ≡ min (D.calls disk.old + 1) (2 ^ 64 - 1) }
     ensures refusals { EndsOnlyBy IsDiskRefusal result }
     ensures keeps { NearsEnd (IsSameLinking linking) (steps_left layer.now) 2 result }
     ensures content { Told (D.content disk.old) (D.content disk.new) (WritesLaid linking at sector layer.now host (D.faults disk.new) result) }
@@ -39,6 +41,7 @@ pub(crate) fn sync_entered<D: SharedDisk>(
     disk: &mut D,
 ) -> Turn<Linking, (), ()>
     ensures counts { StepCounts (D.faults disk.old) (D.faults disk.new) (D.calls disk.old) (D.calls disk.new) result }
+    ensures counted { D.calls disk.new ≡ min (D.calls disk.old + 1) (2 ^ 64 - 1) }
     ensures refusals { EndsOnlyBy IsDiskRefusal result }
     ensures last { IsLast result }
     ensures content { Told (D.content disk.old) (D.content disk.new) (SyncsEntered layer.now host (D.faults disk.new) result) }

@@ -371,6 +371,7 @@ module _ (l : Layer) (host : ℕ) (w : Work) (table bytes : List ℕ) (f : File)
           writer = anew l l host f g0 knows (record { place = refl; greatest = refl; length = refl; mapped = refl; bits = refl }) refl after.0 (subst (λ (x : image.File). KnowsNumbers l x) (sym medium) numbers);
           serves = record {
             inside = lacks.ready.serves.inside;
+            low = lacks.ready.serves.low;
             counted = lacks.ready.serves.counted;
             rising = lacks.ready.serves.rising;
             spare = λ i lt within. subst (λ (x : image.File). IsSpare (laws.layer l.work.header x) cap (slice_index (listed w.chosen) i * c)) (sym sees) (spare_still i lt within);

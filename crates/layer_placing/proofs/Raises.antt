@@ -422,6 +422,7 @@ module _ (l : Layer) (host : ℕ) (r : Raise) (f : File) (formed : IsWellFormedF
     serves_now : ServesAs l.work.header l.target.capacity (is_free m) (mapped m) host f' xs r.upto
     serves_now = record {
       inside = has.ready.serves.inside;
+      low = has.ready.serves.low;
       counted = has.ready.serves.counted;
       rising = has.ready.serves.rising;
       spare = spare_now;
@@ -454,7 +455,12 @@ module _ (l : Layer) (host : ℕ) (r : Raise) (f : File) (formed : IsWellFormedF
           spare = λ i li. all.spare i li li;
           unnamed = λ i li. unnamed_on_each m host (slice_index xs i * 2 ^ m.work.header.cluster_bits) f' knows_now (all.spare i li li).unnamed;
           taken = λ i li. all.taken i li li;
+          rising = all.rising;
+          low = λ i li. below (slice_index xs i * 2 ^ m.work.header.cluster_bits) (2 ^ m.work.header.cluster_bits) (pow_pos m.work.header.cluster_bits) (all.low i li);
         })
+      where
+        below : (a c : ℕ) → 0 < c → a + c ≤ 2 ^ 56 → a < 2 ^ 56
+        below a c some le = omega (arith, some, le)
     after faults (Ended b refusal) next = absurd next
 
     pub raise_steps : (faults : ℕ) (turn : Turn Stage Clusters (Unit {0})) (d e : Content) → d.file l.target.place ≡ Some f → IsAfterRaise r.work r.upto turn

@@ -77,6 +77,7 @@ module _ (l : Layer) (host : ℕ) (f : File) (count : ℕ) (xs : List ℕ) (leas
   pub serves_first : Serves l host f xs 0
   serves_first = record {
     inside = λ i lt. let a = fits i lt in omega (arith, a, seen_size host f);
+    low = λ i lt. named (slice_index xs i * c + c) (as_seen host f).size (l.work.header.refcount_table_clusters * (c / 8) * span * c) (fits i lt);
     counted = λ i lt. div_below (slice_index xs i) span (l.work.header.refcount_table_clusters * (c / 8)) span_some
         (less_rows (slice_index xs i) (l.work.header.refcount_table_clusters * (c / 8) * span) c (pow_pos l.work.header.cluster_bits) (covered_rows i lt));
     rising = rising;
@@ -85,6 +86,9 @@ module _ (l : Layer) (host : ℕ) (f : File) (count : ℕ) (xs : List ℕ) (leas
     left = λ i le lt. ((least.each i lt).0.free, (least.each i lt).2);
   }
     where
+      named : (a n v : ℕ) → a ≤ min (min n v) (2 ^ 56) → a ≤ 2 ^ 56
+      named a n v le = omega (arith, le)
+
       covered_rows : (i : ℕ) → i < length xs → slice_index xs i * c + c ≤ l.work.header.refcount_table_clusters * (c / 8) * span * c
       covered_rows i lt = lower (slice_index xs i * c + c) (as_seen host f).size (l.work.header.refcount_table_clusters * (c / 8) * span * c) (fits i lt)
         where

@@ -40,6 +40,7 @@ ready_synced l host f w ready = record {
   writer = synced_knows l host f ready.writer;
   serves = record {
     inside = ready.serves.inside;
+    low = ready.serves.low;
     counted = ready.serves.counted;
     rising = ready.serves.rising;
     spare = λ i low lt. subst (λ (x : image.File). IsSpare (laws.layer l.work.header x) l.target.capacity (slice_index (listed w.chosen) i * 2 ^ l.work.header.cluster_bits)) (sym same) (ready.serves.spare i low lt);

@@ -208,6 +208,7 @@ module _ (l : Layer) (host : ℕ) (f : File) (w : Work) (table : List ℕ) (n : 
       writer = unnamed_knows l did host at b bytes f formed lacks.ready.writer inside first_unnamed;
       serves = record {
         inside = lacks.ready.serves.inside;
+        low = lacks.ready.serves.low;
         counted = lacks.ready.serves.counted;
         rising = lacks.ready.serves.rising;
         spare = λ i low lt. spare_stays l.work.header l.target.capacity (slice_index (listed w.chosen) i * c) (as_seen host f) (as_seen host f') content (same_size f (seen host f) (seen host f')) (lacks.ready.serves.spare i low lt);

@@ -29,10 +29,11 @@ use Rattle.layer_placing.specs.declared.stage.Raise.{Raise}
 abbrev pub width_of : Layer → ℕ
 width_of layer = 2 ^ (header_kept layer).cluster_bits
 
--- The chosen clusters lie in the file and are covered by the refcount table. Those before `done` are spare, and taken in the
--- map; the others are free in it.
+-- The chosen clusters lie in the file, at places that entries can name, and are covered by the refcount table. Those before
+-- `done` are spare, and taken in the map; the others are free in it.
 pub record ServesAs (h : Header) (capacity : ℕ) (free : ℕ → Bool) (room host : ℕ) (f : File) (xs : List ℕ) (done : ℕ) : Type 0 where
   pub inside : (i : ℕ) → i < length xs → slice_index xs i * 2 ^ h.cluster_bits + 2 ^ h.cluster_bits ≤ 512 * f.size
+  pub low : (i : ℕ) → i < length xs → slice_index xs i * 2 ^ h.cluster_bits + 2 ^ h.cluster_bits ≤ 2 ^ 56
   pub counted : (i : ℕ) → i < length xs → slice_index xs i / (2 ^ h.cluster_bits / 2) < h.refcount_table_clusters * (2 ^ h.cluster_bits / 8)
   pub rising : (i j : ℕ) → i < j → j < length xs → slice_index xs i < slice_index xs j
   pub spare : (i : ℕ) → i < done → i < length xs → IsSpare (laws.layer h (as_seen host f)) capacity (slice_index xs i * 2 ^ h.cluster_bits)
@@ -133,12 +134,15 @@ abbrev pub IsChoice : Layer → ℕ → File → Stage → List ℕ → Type 0
 IsChoice layer host f (Begun asked) xs = AreLeast layer (end_of_room (room_of (seen_tables layer host f))) asked.count xs
 IsChoice layer host f stage xs = Unit {0}
 
--- Each cluster is spare as the host sees it, named by nothing on any outcome, and taken in the map.
+-- Each cluster is spare as the host sees it, named by nothing on any outcome, and taken in the map. They are different ones, at
+-- places that entries can name.
 pub record ArePlaced (layer : Layer) (host : ℕ) (f : File) (xs : List ℕ) : Type 0 where
   pub writer : KnowsWriter layer host f
   pub spare : (i : ℕ) → i < length xs → IsSpare (seen_tables layer host f) (capacity_kept layer) (slice_index xs i * width_of layer)
   pub unnamed : (i : ℕ) → i < length xs → OnEach f (λ g. laws.IsUnnamed (laws.layer (header_kept layer) (on_medium g)) (capacity_kept layer) (slice_index xs i * width_of layer))
   pub taken : (i : ℕ) → i < length xs → is_free layer (slice_index xs i) ≡ false
+  pub rising : (i j : ℕ) → i < j → j < length xs → slice_index xs i < slice_index xs j
+  pub low : (i : ℕ) → i < length xs → slice_index xs i * width_of layer < 2 ^ 56
 
 -- want of room changes nothing, and says what would do
 abbrev pub RefusesRoom : Layer → Layer → ℕ → Stage → File → File → Refusal → Type 0

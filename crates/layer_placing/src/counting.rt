@@ -1,5 +1,5 @@
 // Raising counts, in a range of clusters that has a block.
-ghost use Rattle.std.specs.Prelude.{◌≡◌, ◌≢◌, ℕ, ◌+◌, ◌*◌, ◌%◌, ◌^◌, ◌<◌, ◌≤◌, length};
+ghost use Rattle.std.specs.Prelude.{◌≡◌, ◌≢◌, ℕ, ◌+◌, ◌*◌, ◌%◌, ◌^◌, ◌<◌, ◌≤◌, length, ◌-◌, min};
 ghost use Rattle.shared_disk.specs.Calls.{Told};
 ghost use Rattle.shared_disk.specs.Step.{EndsOnlyBy, IsDiskRefusal, NearsEnd, StepCounts};
 ghost use Rattle.layer_placing.specs.Chosen.{listed};
@@ -55,6 +55,7 @@ pub(crate) fn find_block<D: SharedDisk>(
     work: Work,
 ) -> Turn<Stage, Clusters, ()>
     ensures counts { StepCounts (D.faults disk.old) (D.faults disk.new) (D.calls disk.old) (D.calls disk.new) result }
+    ensures counted { D.calls disk.new ≡ min (D.calls disk.old + 1) (2 ^ 64 - 1) }
     ensures refusals { EndsOnlyBy IsDiskRefusal result }
     ensures falls { Falls (pieces_of layer.now) (Finding work) result }
     ensures chosen { KeepsChosen (Finding work) result }
@@ -117,6 +118,7 @@ pub(crate) fn read_counts<D: SharedDisk>(
     block: u64,
 ) -> Turn<Stage, Clusters, ()>
     ensures counts { StepCounts (D.faults disk.old) (D.faults disk.new) (D.calls disk.old) (D.calls disk.new) result }
+    ensures counted { D.calls disk.new ≡ min (D.calls disk.old + 1) (2 ^ 64 - 1) }
     ensures refusals { EndsOnlyBy IsDiskRefusal result }
     ensures falls { Falls (pieces_of layer.now) (Counting work block) result }
     ensures chosen { KeepsChosen (Counting work block) result }
@@ -170,6 +172,7 @@ pub(crate) fn raise_counts<D: SharedDisk>(
     raise: Raise,
 ) -> Turn<Stage, Clusters, ()>
     ensures counts { StepCounts (D.faults disk.old) (D.faults disk.new) (D.calls disk.old) (D.calls disk.new) result }
+    ensures counted { D.calls disk.new ≡ min (D.calls disk.old + 1) (2 ^ 64 - 1) }
     ensures refusals { EndsOnlyBy IsDiskRefusal result }
     ensures kept { OnlyTakes layer.old layer.new }
     ensures falls { Falls (pieces_of layer.old) (Raising raise) result }

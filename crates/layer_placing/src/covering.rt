@@ -1,5 +1,5 @@
 // A block for a range of clusters that has none: the first cluster of the range becomes it.
-ghost use Rattle.std.specs.Prelude.{◌≡◌, ◌+◌, ◌≤◌, replicate};
+ghost use Rattle.std.specs.Prelude.{◌≡◌, ◌+◌, ◌≤◌, replicate, ◌-◌, ◌^◌, min};
 ghost use Rattle.shared_disk.specs.Calls.{Told};
 ghost use Rattle.layer_placing.specs.Knows.{IsRoom, KeepsChosen, Steps};
 ghost use Rattle.qcow_format.specs.Bytes.{bytes_of, put};
@@ -56,6 +56,7 @@ pub(crate) fn write_piece<D: SharedDisk>(
     piece: u64,
 ) -> Turn<Stage, Clusters, ()>
     ensures counts { StepCounts (D.faults disk.old) (D.faults disk.new) (D.calls disk.old) (D.calls disk.new) result }
+    ensures counted { D.calls disk.new ≡ min (D.calls disk.old + 1) (2 ^ 64 - 1) }
     ensures refusals { EndsOnlyBy IsDiskRefusal result }
     ensures falls { Falls (pieces_of layer.now) (Zeroing work table piece) result }
     ensures chosen { KeepsChosen (Zeroing work table piece) result }
@@ -86,6 +87,7 @@ pub(crate) fn settle<D: SharedDisk>(
     table: [u8; 512],
 ) -> Turn<Stage, Clusters, ()>
     ensures counts { StepCounts (D.faults disk.old) (D.faults disk.new) (D.calls disk.old) (D.calls disk.new) result }
+    ensures counted { D.calls disk.new ≡ min (D.calls disk.old + 1) (2 ^ 64 - 1) }
     ensures refusals { EndsOnlyBy IsDiskRefusal result }
     ensures falls { Falls (pieces_of layer.now) (Zeroed work table) result }
     ensures chosen { KeepsChosen (Zeroed work table) result }
@@ -106,6 +108,7 @@ pub(crate) fn enter<D: SharedDisk>(
     table: [u8; 512],
 ) -> Turn<Stage, Clusters, ()>
     ensures counts { StepCounts (D.faults disk.old) (D.faults disk.new) (D.calls disk.old) (D.calls disk.new) result }
+    ensures counted { D.calls disk.new ≡ min (D.calls disk.old + 1) (2 ^ 64 - 1) }
     ensures refusals { EndsOnlyBy IsDiskRefusal result }
     ensures falls { Falls (pieces_of layer.now) (Settled work table) result }
     ensures chosen { KeepsChosen (Settled work table) result }
@@ -130,6 +133,7 @@ pub(crate) fn settle_entry<D: SharedDisk>(
     block: u64,
 ) -> Turn<Stage, Clusters, ()>
     ensures counts { StepCounts (D.faults disk.old) (D.faults disk.new) (D.calls disk.old) (D.calls disk.new) result }
+    ensures counted { D.calls disk.new ≡ min (D.calls disk.old + 1) (2 ^ 64 - 1) }
     ensures refusals { EndsOnlyBy IsDiskRefusal result }
     ensures falls { Falls (pieces_of layer.now) (Entered work block) result }
     ensures chosen { KeepsChosen (Entered work block) result }

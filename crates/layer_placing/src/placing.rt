@@ -1,5 +1,5 @@
 // Taking clusters, in steps.
-ghost use Rattle.std.specs.Prelude.{◌≡◌, ◌≤◌};
+ghost use Rattle.std.specs.Prelude.{◌≡◌, ◌≤◌, ◌+◌, ◌-◌, ◌^◌, min};
 ghost use Rattle.shared_disk.specs.Calls.{Told};
 ghost use Rattle.layer_placing.specs.Knows.{KeepsChosen, Steps};
 ghost use Rattle.shared_disk.specs.Step.{EndsOnlyBy, NearsEnd, StepCounts};
@@ -15,7 +15,7 @@ use qcow_layer::Layer;
 use sd_names::{HostId, Turn};
 use shared_disk::{SharedDisk, refusal_for};
 
-/// The taking of the least free clusters of a layer's file, in steps of at most one call of the disk: the length is asked
+/// The taking of the least free clusters of a layer's file, in steps of one call of the disk: the length is asked
 /// and the clusters are chosen; then their counts become 1, range by range, each of which first gets its block where it has
 /// none.
 #[derive(Drop)]
@@ -31,6 +31,7 @@ fn begin<D: SharedDisk>(
     asked: Asked,
 ) -> Turn<Stage, Clusters, ()>
     ensures counts { StepCounts (D.faults disk.old) (D.faults disk.new) (D.calls disk.old) (D.calls disk.new) result }
+    ensures counted { D.calls disk.new ≡ min (D.calls disk.old + 1) (2 ^ 64 - 1) }
     ensures refusals { EndsOnlyBy (IsPlacingRefusal layer.now (Begun asked)) result }
     ensures falls { Falls (pieces_of layer.now) (Begun asked) result }
     ensures chosen { KeepsChosen (Begun asked) result }
@@ -53,6 +54,7 @@ fn step_stage<D: SharedDisk>(
     disk: &mut D,
 ) -> Turn<Stage, Clusters, ()>
     ensures counts { StepCounts (D.faults disk.old) (D.faults disk.new) (D.calls disk.old) (D.calls disk.new) result }
+    ensures counted { D.calls disk.new ≡ min (D.calls disk.old + 1) (2 ^ 64 - 1) }
     ensures refusals { EndsOnlyBy (IsPlacingRefusal layer.old stage) result }
     ensures layer { OnlyTakes layer.old layer.new }
     ensures falls { Falls (pieces_of layer.old) stage result }
@@ -85,7 +87,7 @@ impl Placing {
         }
     }
 
-    /// Makes at most one call of the disk. All steps are made with the same layer, by one host.
+    /// Makes one call of the disk. All steps are made with the same layer, by one host.
     pub fn step<D: SharedDisk>(
         self,
         host: HostId,
@@ -93,6 +95,7 @@ impl Placing {
         disk: &mut D,
     ) -> Turn<Placing, Clusters, ()>
         ensures counts { StepCounts (D.faults disk.old) (D.faults disk.new) (D.calls disk.old) (D.calls disk.new) result }
+        ensures counted { D.calls disk.new ≡ min (D.calls disk.old + 1) (2 ^ 64 - 1) }
         ensures refusals { EndsOnlyBy (IsPlacingRefusal layer.old (stage_of self)) result }
         ensures layer { OnlyTakes layer.old layer.new }
         ensures falls { NearsEnd (λ next. Unit {0}) (placing_left (pieces_of layer.old)) (placing_left (pieces_of layer.old) self) result }

@@ -1,5 +1,5 @@
 // Reads of a layer's file, one call of the disk each. What stands past the file's end reads as zeros.
-ghost use Rattle.std.specs.Prelude.{◌≡◌, ℕ, ◌/◌, IfErr};
+ghost use Rattle.std.specs.Prelude.{◌≡◌, ℕ, ◌/◌, IfErr, ◌+◌, ◌-◌, ◌^◌, min};
 ghost use Rattle.shared_disk.specs.Calls.{IsAligned, Told};
 ghost use Rattle.shared_disk.specs.Step.{IsDiskRefusal, ResultCounts};
 ghost use Rattle.qcow_layer.specs.Seen.{ReadsHead, ReadsSector};
@@ -19,6 +19,7 @@ pub fn read_sector<D: SharedDisk>(
 ) -> Result<[u8; 512], Refusal>
     requires { IsAligned at }
     ensures counts { ResultCounts (D.faults disk.old) (D.faults disk.new) (D.calls disk.old) (D.calls disk.new) result }
+    ensures counted { D.calls disk.new ≡ min (D.calls disk.old + 1) (2 ^ 64 - 1) }
     ensures refusals { IfErr result IsDiskRefusal }
     ensures content { Told (D.content disk.old) (D.content disk.new) (ReadsSector host place (at / 512) (D.faults disk.new) result) }
 {
@@ -36,6 +37,7 @@ pub(crate) fn read_head<D: SharedDisk>(
     place: Place,
 ) -> Result<[u8; HEAD], Refusal>
     ensures counts { ResultCounts (D.faults disk.old) (D.faults disk.new) (D.calls disk.old) (D.calls disk.new) result }
+    ensures counted { D.calls disk.new ≡ min (D.calls disk.old + 1) (2 ^ 64 - 1) }
     ensures refusals { IfErr result IsDiskRefusal }
     ensures content { Told (D.content disk.old) (D.content disk.new) (ReadsHead host place (D.faults disk.new) result) }
 {
