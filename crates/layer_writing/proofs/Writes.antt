@@ -224,7 +224,7 @@ module _ (h : Header) (capacity greatest size room : ℕ) (parent : Option Id) (
             let is = data_at h (file_of f.size s) capacity (shape_of (file_of f.size s) capacity h like.same.header) (clean_of (file_of f.size s) capacity h like.same.header like.same.sound) k p here in
             let over = overwrite f.size capacity p s s' h (λ i lt. long i) like.same.header like.same.sound begins (outside s s' laid) k is.name here in
             let some = not_first_by f.size capacity p s s' h (λ i lt. long i) like.same.header like.same.sound begins (outside s s' laid) (entry_position (layer h (file_of f.size s)) k) is.name
-                (behind_first (layer h (file_of f.size s)) k) in
+            (behind_first (layer h (file_of f.size s)) k) in
             (record { same = over.same; parent = late some s s' long like laid }, over)
 
 -- ---- which clusters are used
