@@ -7,6 +7,7 @@ use Rattle.std.proofs.lemmas.Bool.{cases_lt}
 use Rattle.std.proofs.lemmas.Bool.Decides.{nat_tests}
 use Rattle.std.proofs.lemmas.List.{get_or_append_left, get_or_past, length-append, length-replicate}
 use Rattle.image_model.specs.File.{file_of, sector_in}
+use Rattle.layer_laws.specs.Laws.{SameOutside}
 use Rattle.layer_writing.specs.Holding.{with_sector}
 
 module _ (sector : ℕ → List ℕ) (long : (k : ℕ) → length (sector k) ≡ 512) where
@@ -102,3 +103,33 @@ module _ (n p : ℕ) (b : List ℕ) (s : ℕ → List ℕ) (sized : length b ≡
           zero_plus = omega arith
       go (inr le) =
           get_or_past (file_of n (with_sector p b s)).head k 0 (omega (arith, new_head_length, le)) ∙ sym (get_or_past (file_of n s).head k 0 (omega (arith, head_length, le)))
+
+  -- a sector of the first cluster
+  pub outside_cluster : (size : ℕ) → 512 * p + 512 ≤ size → SameOutside 0 size s (with_sector p b s)
+  outside_cluster size within k side = other k (apart side)
+    where
+      apart : (k < 0 / 512) ⊎ ((0 + size) / 512 ≤ k) → k ≢ p
+      apart (inl lt) e = omega (arith, lt)
+      apart (inr le) e = omega (arith, le, e, within)
+
+-- ---- the first sector, and the rest of the head
+
+flat_same : (f g : ℕ → List ℕ) (a m : ℕ) → ((k : ℕ) → a ≤ k → g k ≡ f k) → flat_map g (range_with_len a m) ≡ flat_map f (range_with_len a m)
+flat_same f g a zero same = refl
+flat_same f g a (suc m) same =
+    ap (λ xs. xs ++ flat_map g (range_with_len (a + 1) m)) (same a (omega arith)) ∙ ap (λ xs. f a ++ xs) (flat_same f g (a + 1) m (λ k le. same k (omega (arith, le))))
+
+module _ (n : ℕ) (b : List ℕ) (s : ℕ → List ℕ) (sized : length b ≡ 512) (long : (k : ℕ) → length (s k) ≡ 512) (some : 0 < n) where
+  abbrev pub rest : List ℕ
+  rest = flat_map (sector_in n s) (range_with_len 1 127)
+
+  pub old_split : (file_of n s).head ≡ s 0 ++ rest
+  old_split =
+      file_head n 0 b s sized long s
+      ∙ ap (λ t. (if t then s 0 else replicate 512 0) ++ rest) (let e : nat_lt 0 n ≡ true = grind (arith, nat_tests) in e)
+
+  pub new_split : (file_of n (with_sector 0 b s)).head ≡ b ++ rest
+  new_split =
+      file_head n 0 b s sized long (with_sector 0 b s)
+      ∙ ap (λ xs. xs ++ flat_map (sector_in n (with_sector 0 b s)) (range_with_len 1 127)) (here_in n 0 b s sized long some)
+      ∙ ap (λ xs. b ++ xs) (flat_same (sector_in n s) (sector_in n (with_sector 0 b s)) 1 127 (λ k le. other_in n 0 b s sized long k (omega (arith, le))))

@@ -4,7 +4,6 @@ use Rattle.std.proofs.lemmas.List.{take_all}
 use Rattle.sd_names.specs.declared.place.Dir.{Dir}
 use Rattle.sd_names.specs.declared.place.Place.{Place}
 use Rattle.sd_names.specs.declared.refusal.Refusal.TheVariants.{DiskFault}
-use Rattle.sd_names.specs.declared.turn.Turn.{Turn}
 use Rattle.sd_names.specs.declared.turn.Turn.TheVariants.{Ended}
 use Rattle.shared_disk.specs.Content.{Content, File, sector_of}
 use Rattle.shared_disk.specs.Calls.{IsPut, IsSame, ReadAt, Syncs, WriteAt, sectors_in, wrote}
@@ -16,11 +15,7 @@ use Rattle.shared_disk.proofs.AtPlace.{no_file, one_file}
 use Rattle.shared_disk.proofs.Outcomes.{settled_file}
 use Rattle.layer_writing.specs.Holding.{IsBetween, IsEither, with_sector}
 use Rattle.layer_writing.proofs.Sectors.{alone_writes, between_written, either_on_each, settled_alone}
-use Rattle.layer_heading.specs.Rebasing.{IsWriting}
-use Rattle.layer_heading.specs.declared.rebasing.Rebasing.{Rebasing}
-
-abbrev pub Rebases : Type 0
-Rebases = Turn Rebasing (Unit {0}) (Unit {0})
+use Rattle.layer_heading.specs.Writing.{IsWriting, Turned}
 
 -- all other places, and the folders
 pub record Elsewhere (place : Place) (d e : Content) : Type 0 where
@@ -64,7 +59,7 @@ at_same place d e same = same_elsewhere place d e same
 -- ---- one sector is written
 
 -- the write did its work, or the disk failed; on each outcome the sector is there or not
-pub record Wrote (place : Place) (host p : ℕ) (sector : List ℕ) (faults : ℕ) (next turn : Rebases) (f : File) (e : Content) : Type 0 where
+pub record Wrote {S : Type 0} (place : Place) (host p : ℕ) (sector : List ℕ) (faults : ℕ) (next turn : Turned S) (f : File) (e : Content) : Type 0 where
   pub file : File
   pub there : e.file place ≡ Some file
   pub size : file.size ≡ f.size
@@ -73,7 +68,7 @@ pub record Wrote (place : Place) (host p : ℕ) (sector : List ℕ) (faults : �
   pub each : OnEach file (IsEither f.stable (with_sector p sector f.stable))
   pub ends : ((turn ≡ next) × IsWriting host p sector f file) ⊎ (turn ≡ Ended tt (DiskFault faults))
 
-module _ (place : Place) (host p : ℕ) (sector : List ℕ) (faults : ℕ) (next turn : Rebases) (f : File) (d e : Content)
+module _ {S : Type 0} (place : Place) (host p : ℕ) (sector : List ℕ) (faults : ℕ) (next turn : Turned S) (f : File) (d e : Content)
     (there : d.file place ≡ Some f) (settled : IsSettled f) (sized : length sector ≡ 512) (inside : p < f.size) where
   one : sectors_in sector ≡ 1
   one = omega (arith, sized)

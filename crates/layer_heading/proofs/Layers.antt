@@ -1,5 +1,5 @@
 -- A layer's file with the next name beside the present one, and then with the next header.
-use Rattle.std.proofs.Common.{◌≡◌, ◌≢◌, ◌⊎◌, inl, inr, ℕ, zero, suc, ◌+◌, ◌-◌, ◌*◌, ◌/◌, ◌%◌, ◌^◌, ◌<◌, ◌≤◌, min, Bool, true, false, List, ◌++◌, length, get_or, take, drop, replicate, Option, Some, None, Result, Ok, Err, refl, sym, ap, ◌∙◌, arith, nat_lt, ne_eqb}
+use Rattle.std.proofs.Common.{◌≡◌, ◌⊎◌, inl, inr, ℕ, zero, suc, ◌+◌, ◌-◌, ◌*◌, ◌/◌, ◌%◌, ◌^◌, ◌<◌, ◌≤◌, min, Bool, true, false, List, ◌++◌, length, get_or, take, drop, replicate, Option, Some, None, Result, Ok, Err, refl, sym, ap, ◌∙◌, arith, nat_lt, ne_eqb}
 use Rattle.std.specs.Prelude.{◌==◌, ◌&&◌, ◌||◌, not, nat_le, if◌then◌else◌}
 use Rattle.std.specs.List.{flat_map, range_with_len}
 use Rattle.std.specs.Option.{is_some, option_map}
@@ -25,7 +25,7 @@ use Rattle.image_model.specs.Soundness.{IsSound, layer_header, layer_header_of}
 use Rattle.sd_names.specs.declared.fault.LayerFault.{LayerFault}
 use Rattle.sd_names.specs.declared.fault.LayerFault.TheVariants.{Short, Size}
 use Rattle.sd_names.specs.declared.kinds.Format.{Format}
-use Rattle.layer_laws.specs.Laws.{Rebased, SameOutside, layer}
+use Rattle.layer_laws.specs.Laws.{Rebased, layer}
 use Rattle.layer_laws.proofs.Heads.{layer_header_same}
 use Rattle.layer_laws.proofs.Rebases as laws
 use Rattle.layer_laws.proofs.Sound.{header_read, shape_of}
@@ -37,7 +37,8 @@ use Rattle.layer_creating.proofs.Lengths.{name_long}
 use Rattle.layer_creating.specs.declared.backing.Backing.{Backing}
 use Rattle.layer_writing.specs.Holding.{with_sector}
 use Rattle.layer_heading.specs.Rebased.{IsOver, is_touched, name_place, rebased}
-use Rattle.layer_heading.proofs.Files.{file_head, head_byte, head_same, head_length, here_in, in_long, in_new_long, new_head_length, other, other_in}
+use Rattle.layer_heading.proofs.Files.{file_head, head_byte, head_same, head_length, here_in, in_long, in_new_long, new_head_length, other_in, outside_cluster}
+use Rattle.layer_heading.proofs.Files as files
 use Rattle.layer_heading.proofs.Names.{names_written, parent_kept}
 
 -- ---- where the next name goes
@@ -144,18 +145,11 @@ module _ (n capacity : ℕ) (s : ℕ → List ℕ) (h : Header) (backing : Backi
   pub named_parent : backing_id h (file_of n named).head ≡ backing_id h (file_of n s).head
   named_parent = parent_kept h (file_of n s).head (file_of n named).head (512 * P) read lengths below free (head_same n P (name_sector (Some backing)) s (name_long backing) long)
 
-  outside : (p : ℕ) (b : List ℕ) → length b ≡ 512 → 512 * p + 512 ≤ 2 ^ h.cluster_bits → SameOutside 0 (2 ^ h.cluster_bits) s (with_sector p b s)
-  outside p b sized within k side = other n p b s sized long k (apart side)
-    where
-      apart : (k < 0 / 512) ⊎ ((0 + 2 ^ h.cluster_bits) / 512 ≤ k) → k ≢ p
-      apart (inl lt) e = omega (arith, lt)
-      apart (inr le) e = omega (arith, le, e, within)
-
   in_cluster : 512 * P + 512 ≤ 2 ^ h.cluster_bits
   in_cluster = omega (arith, place.0, place.2, head_is.inside)
 
   pub named_same : Rebased h h capacity (file_of n s) (file_of n named)
-  named_same = laws.rebased n capacity s named h is sound (outside P (name_sector (Some backing)) (name_long backing) in_cluster) h named_header refl
+  named_same = laws.rebased n capacity s named h is sound (outside_cluster n P (name_sector (Some backing)) s (name_long backing) long (2 ^ h.cluster_bits) in_cluster) h named_header refl
 
 -- what is used follows
 pub used_same : (h next : Header) (capacity : ℕ) (f g : image.File) (c : ℕ) → next.cluster_bits ≡ h.cluster_bits → Rebased h next capacity f g → is_used (layer next g) c ≡ is_used (layer h f) c
@@ -168,7 +162,7 @@ used_same h next capacity f g c bits r =
 -- ---- the file with the next header
 
 -- a header of the same size is enough for the same volume
-enough : (n capacity : ℕ) (s r : ℕ → List ℕ) (h next : Header) → layer_header (file_of n s) capacity ≡ Ok h → next.size ≡ h.size → header_of (file_of n r).head ≡ Ok next → layer_header (file_of n r) capacity ≡ Ok next
+pub enough : (n capacity : ℕ) (s r : ℕ → List ℕ) (h next : Header) → layer_header (file_of n s) capacity ≡ Ok h → next.size ≡ h.size → header_of (file_of n r).head ≡ Ok next → layer_header (file_of n r) capacity ≡ Ok next
 unfolding layer_header file_of
 enough n capacity s r h next is size read = go (nat_lt (512 * n) 512) (header_of (file_of n s).head) is
   where
@@ -210,11 +204,6 @@ rebased_shape h backing = record { version = refl; bits = refl; length = refl; l
     mapped_some : (o : Option Format) → is_some (option_map (λ _. backing.format) o) ≡ is_some o
     mapped_some None = refl
     mapped_some (Some f) = refl
-
-flat_same : (f g : ℕ → List ℕ) (a m : ℕ) → ((k : ℕ) → a ≤ k → g k ≡ f k) → flat_map g (range_with_len a m) ≡ flat_map f (range_with_len a m)
-flat_same f g a zero same = refl
-flat_same f g a (suc m) same =
-    ap (λ xs. xs ++ flat_map g (range_with_len (a + 1) m)) (same a (omega arith)) ∙ ap (λ xs. f a ++ xs) (flat_same f g (a + 1) m (λ k le. same k (omega (arith, le))))
 
 zero_byte : (m k : ℕ) → get_or (replicate {A = ℕ} m 0) k 0 ≡ 0
 zero_byte zero k = refl
@@ -280,15 +269,10 @@ module _ (n capacity : ℕ) (r : ℕ → List ℕ) (h : Header) (backing : Backi
   zero_in = omega (arith, inside, heads_are.wide, heads_are.inside)
 
   old_split : (file_of n r).head ≡ r 0 ++ rest
-  old_split =
-      file_head n 0 (r 0) r (long 0) long r
-      ∙ ap (λ b. (if b then r 0 else replicate 512 0) ++ rest) (let lt = zero_in in let e : nat_lt 0 n ≡ true = grind (arith, nat_tests) in e)
+  old_split = files.old_split n first r first_long long zero_in
 
   new_split : (file_of n headed).head ≡ first ++ rest
-  new_split =
-      file_head n 0 first r first_long long headed
-      ∙ ap (λ xs. xs ++ flat_map (sector_in n headed) (range_with_len 1 127)) (here_in n 0 first r first_long long zero_in)
-      ∙ ap (λ xs. first ++ xs) (flat_same (sector_in n r) (sector_in n headed) 1 127 (λ k le. other_in n 0 first r first_long long k (omega (arith, le))))
+  new_split = files.new_split n first r first_long long zero_in
 
   -- the name in the head
   abbrev head' : List ℕ
@@ -375,7 +359,7 @@ module _ (n capacity : ℕ) (r : ℕ → List ℕ) (h : Header) (backing : Backi
   new_header = enough n capacity r headed h next is refl new_read
 
   pub new_same : Rebased h next capacity (file_of n r) (file_of n headed)
-  new_same = laws.rebased n capacity r headed h is sound (outside n capacity r h backing long is sound 0 first first_long (omega (arith, heads_are.wide, heads_are.inside))) next new_header refl
+  new_same = laws.rebased n capacity r headed h is sound (outside_cluster n 0 first r first_long long (2 ^ h.cluster_bits) (omega (arith, heads_are.wide, heads_are.inside))) next new_header refl
 
   pub is_over : IsOver h backing capacity (file_of n r) (file_of n headed)
   is_over = record { header = new_header; parent = new_parent; rest = new_same }

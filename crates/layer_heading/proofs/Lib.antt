@@ -4,9 +4,13 @@ pub mod Changes
 pub mod Parts
 pub mod Writes
 pub mod Names
+pub mod Cleared
 pub mod Files
 pub mod Layers
 pub mod Outcomes
 pub mod Frames
 pub mod Quiet
+pub mod Writing
 pub mod Steps
+pub mod ClearedFiles
+pub mod Clearings

@@ -102,20 +102,24 @@ parts bytes g e = go (nat_lt (length bytes) 512) refl e
         large : nat_lt (length bytes) 512 ≡ false → 512 ≤ length bytes
         large t = grind (arith, nat_tests)
 
--- another head in which the fields are the same, and which keeps the rules
-pub read_again : (bytes bytes' : List ℕ) (h : Header) (p : Parts bytes h) → fields_of bytes' ≡ fields_of bytes → 512 ≤ length bytes' → shape_of (take (head_size h.cluster_bits) bytes') h ≡ Ok p.found
-    → header_of bytes' ≡ Ok h
+-- a head with these fields, which keeps the rules
+pub read_with : (bytes : List ℕ) (next : Header) (found : Formats) (fields : Header) → fields_of bytes ≡ fields → fine_fields fields ≡ Ok fields → with_format fields found ≡ next
+    → nat_lt (mapped fields) fields.size ≡ false → 512 ≤ length bytes → shape_of (take (head_size next.cluster_bits) bytes) next ≡ Ok found → header_of bytes ≡ Ok next
 unfolding header_of shape_of
-read_again bytes bytes' h p same enough shape =
-    let long : nat_lt (length bytes') 512 ≡ false = grind (arith, nat_tests) in
-    let fields : fields_of bytes' ≡ p.fields = same ∙ p.read in
-    let bare : shape_of (take (head_size p.fields.cluster_bits) bytes') p.fields ≡ Ok p.found = subst (λ (x : Header). shape_of (take (head_size x.cluster_bits) bytes') x ≡ Ok p.found) (sym p.with_found) shape in
-    let end : sized (with_format p.fields p.found) ≡ Ok h = ap (λ b. cond b (Err (Size p.fields.size)) (Ok (with_format p.fields p.found))) p.fits ∙ ap (λ (x : Header). Ok x) p.with_found in
-    ap (λ b. cond b (Err Short) (fine_fields (fields_of bytes') >>= after)) long
-    ∙ ap (λ f. fine_fields f >>= after) fields
-    ∙ ap (λ r. r >>= after) p.fine
-    ∙ ap (λ r. r >>= λ found. sized (with_format p.fields found)) bare
+read_with bytes next found fields read fine whole fits enough shape =
+    let long : nat_lt (length bytes) 512 ≡ false = grind (arith, nat_tests) in
+    let bare : shape_of (take (head_size fields.cluster_bits) bytes) fields ≡ Ok found = subst (λ (x : Header). shape_of (take (head_size x.cluster_bits) bytes) x ≡ Ok found) (sym whole) shape in
+    let end : sized (with_format fields found) ≡ Ok next = ap (λ b. cond b (Err (Size fields.size)) (Ok (with_format fields found))) fits ∙ ap (λ (x : Header). Ok x) whole in
+    ap (λ b. cond b (Err Short) (fine_fields (fields_of bytes) >>= after)) long
+    ∙ ap (λ f. fine_fields f >>= after) read
+    ∙ ap (λ r. r >>= after) fine
+    ∙ ap (λ r. r >>= λ found. sized (with_format fields found)) bare
     ∙ end
   where
     after : Header → Result Header LayerFault
-    after x = shape_of (take (head_size x.cluster_bits) bytes') x >>= λ found. sized (with_format x found)
+    after x = shape_of (take (head_size x.cluster_bits) bytes) x >>= λ found. sized (with_format x found)
+
+-- another head in which the fields are the same, and which keeps the rules
+pub read_again : (bytes bytes' : List ℕ) (h : Header) (p : Parts bytes h) → fields_of bytes' ≡ fields_of bytes → 512 ≤ length bytes' → shape_of (take (head_size h.cluster_bits) bytes') h ≡ Ok p.found
+    → header_of bytes' ≡ Ok h
+read_again bytes bytes' h p same enough shape = read_with bytes' h p.found p.fields (same ∙ p.read) p.fine p.with_found p.fits enough shape

@@ -1,11 +1,12 @@
 -- A quiet layer's file with the next name, and with the next header.
-use Rattle.std.proofs.Common.{◌≡◌, ◌⊎◌, inl, inr, ℕ, ◌*◌, ◌/◌, ◌%◌, ◌^◌, ◌<◌, ◌≤◌, Bool, true, false, List, length, get_or, Some, Ok, Err, refl, sym, ap, ◌∙◌, subst, arith, nat_lt}
+use Rattle.std.proofs.Common.{◌≡◌, ◌⊎◌, inl, inr, ℕ, ◌*◌, ◌/◌, ◌%◌, ◌^◌, ◌<◌, ◌≤◌, Bool, true, false, List, length, get_or, Option, Some, Ok, Err, refl, sym, ap, ◌∙◌, subst, arith, nat_lt}
 use Rattle.std.specs.Prelude.{not, if◌then◌else◌}
 use Rattle.std.proofs.Math.Nat.{mul-le-mul_right}
 use Rattle.std.proofs.lemmas.Bool.{cases_lt}
 use Rattle.std.proofs.lemmas.Bool.Decides.{nat_tests}
 use Rattle.std.proofs.lemmas.List.{get_or_past}
 use Rattle.sd_names.specs.Id.{IsIdBytes}
+use Rattle.sd_names.specs.declared.id.Id.{Id}
 use Rattle.sd_names.specs.declared.fault.LayerFault.TheVariants.{Short}
 use Rattle.shared_disk.specs.Content.{File}
 use Rattle.qcow_format.specs.declared.header.Header.{Header}
@@ -16,7 +17,7 @@ use Rattle.image_model.specs.File as image
 use Rattle.image_model.specs.File.{file_of}
 use Rattle.image_model.specs.Layer.{is_used}
 use Rattle.image_model.specs.Soundness.{IsSound, layer_header, layer_header_of}
-use Rattle.layer_laws.specs.Laws.{layer}
+use Rattle.layer_laws.specs.Laws.{Rebased, layer}
 use Rattle.layer_laws.proofs.Numbers.{whole_place}
 use Rattle.layer_creating.specs.New.{name_sector}
 use Rattle.layer_creating.specs.declared.backing.Backing.{Backing}
@@ -29,7 +30,7 @@ use Rattle.layer_writing.specs.Holding.{on_medium, with_sector}
 use Rattle.layer_writing.specs.Writer.{IsSameFile}
 use Rattle.layer_writing.proofs.Known.{settled_medium}
 use Rattle.layer_heading.specs.Rebased.{IsOldOrOver, IsOver, IsStill, name_place, rebased}
-use Rattle.layer_heading.specs.Rebasing.{IsQuiet}
+use Rattle.layer_heading.specs.Writing.{IsQuiet}
 use Rattle.layer_heading.proofs.Layers as layers
 
 -- a file with a header isn't empty
@@ -52,10 +53,6 @@ one_cluster n c even some =
 
     zero_not : n ≡ 0 * c → ⊥
     zero_not e = omega (arith, e, some)
-
--- with other sectors the file is what a step may make of it, and sound
-abbrev pub Becomes : Layer → Backing → File → (ℕ → List ℕ) → Type 0
-Becomes l backing f s = IsOldOrOver (header_kept l) backing (capacity_kept l) (on_medium f) (file_of f.size s) × IsSound (file_of f.size s) (capacity_kept l)
 
 module _ (layer_ : Layer) (host : ℕ) (f : File) (q : IsQuiet layer_ host f) where
   abbrev h : Header
@@ -94,6 +91,30 @@ module _ (layer_ : Layer) (host : ℕ) (f : File) (q : IsQuiet layer_ host f) wh
 
   pub name_inside : name_place h / 512 < n
   name_inside = omega (arith, place_is.0, place_is.2, heads_are.inside, inside)
+
+  -- ---- a layer with another header and parent
+
+  module _ (next : Header) (parent : Option Id) (after : Layer) (w : IsWithHeader layer_ next parent after) where
+    pub numbers_with : (g : image.File) → layer_header g capacity ≡ Ok next → parent ≡ backing_id next g.head → next.cluster_bits ≡ h.cluster_bits → Rebased h next capacity (on_medium f) g → KnowsNumbers after g
+    numbers_with g header parent_is bits rest =
+        let cap : after.target.capacity ≡ capacity = ap (λ t. t.capacity) w.target in
+        record {
+          header = ap (layer_header g) cap ∙ header ∙ ap (λ (x : Header). Ok x) (sym w.header_is);
+          parent = w.parent_is ∙ parent_is ∙ ap (λ (x : Header). backing_id x g.head) (sym w.header_is);
+          sound = subst (λ (k : ℕ). IsSound g k) (sym cap) rest.sound;
+          used = λ c lt.
+              ap (λ m. has m.free c) w.marks ∙ numbers.used c (subst (λ (k : ℕ). c < k) (ap (λ m. room_of m.free) w.marks) lt)
+              ∙ ap not (sym (ap (λ (x : Header). is_used (layer x g) c) w.header_is ∙ layers.used_same h next capacity (on_medium f) g c bits rest));
+        }
+
+    pub same_file : next.cluster_bits ≡ h.cluster_bits → IsSameFile layer_ after
+    same_file bits = record {
+      place = ap (λ t. t.place) w.target;
+      greatest = ap (λ t. t.greatest) w.target;
+      length = ap (λ m. m.size) w.marks;
+      mapped = ap (λ m. room_of m.free) w.marks;
+      bits = ap (λ (x : Header). x.cluster_bits) w.header_is ∙ bits;
+    }
 
   -- ---- the next name
 
@@ -144,22 +165,4 @@ module _ (layer_ : Layer) (host : ℕ) (f : File) (q : IsQuiet layer_ host f) wh
     headed_sound = over.rest.sound
 
     pub headed_numbers : (after : Layer) → IsWithHeader layer_ (rebased h backing) (Some backing.parent) after → KnowsNumbers after (file_of n headed)
-    headed_numbers after w =
-        let cap : after.target.capacity ≡ capacity = ap (λ t. t.capacity) w.target in
-        record {
-          header = ap (layer_header (file_of n headed)) cap ∙ over.header ∙ ap (λ (x : Header). Ok x) (sym w.header_is);
-          parent = w.parent_is ∙ sym over.parent ∙ ap (λ (x : Header). backing_id x (file_of n headed).head) (sym w.header_is);
-          sound = subst (λ (k : ℕ). IsSound (file_of n headed) k) (sym cap) over.rest.sound;
-          used = λ c lt.
-              ap (λ m. has m.free c) w.marks ∙ numbers.used c (subst (λ (k : ℕ). c < k) (ap (λ m. room_of m.free) w.marks) lt)
-              ∙ ap not (sym (ap (λ (x : Header). is_used (layer x (file_of n headed)) c) w.header_is ∙ layers.used_same h (rebased h backing) capacity (on_medium f) (file_of n headed) c refl over.rest));
-        }
-
-    pub same_file : (after : Layer) → IsWithHeader layer_ (rebased h backing) (Some backing.parent) after → IsSameFile layer_ after
-    same_file after w = record {
-      place = ap (λ t. t.place) w.target;
-      greatest = ap (λ t. t.greatest) w.target;
-      length = ap (λ m. m.size) w.marks;
-      mapped = ap (λ m. room_of m.free) w.marks;
-      bits = ap (λ (x : Header). x.cluster_bits) w.header_is;
-    }
+    headed_numbers after w = numbers_with (rebased h backing) (Some backing.parent) after w (file_of n headed) over.header (sym over.parent) refl over.rest

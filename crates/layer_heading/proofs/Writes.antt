@@ -93,7 +93,7 @@ short_text : (f : Format) → length (text_of f) ≤ 5
 short_text Raw = omega arith
 short_text Cow = omega arith
 
-from_format : (at : ℕ) (new bytes rest : List ℕ) → at ≤ length bytes → drop at (put at new bytes ++ rest) ≡ new ++ (drop (length new) (drop at bytes) ++ rest)
+pub from_format : (at : ℕ) (new bytes rest : List ℕ) → at ≤ length bytes → drop at (put at new bytes ++ rest) ≡ new ++ (drop (length new) (drop at bytes) ++ rest)
 unfolding put
 from_format at new bytes rest fits =
     let len : length (take at bytes) ≡ at = omega (arith, length-take at bytes, fits) in

@@ -3,6 +3,7 @@ ghost use Rattle.std.specs.Prelude.{◌≡◌, ◌≤◌, Some};
 ghost use Rattle.shared_disk.specs.Calls.{IsAligned};
 ghost use Rattle.qcow_format.specs.Header.{head_size};
 ghost use Rattle.layer_creating.specs.New.{name_sector};
+ghost use Rattle.layer_heading.specs.Cleared.{cleared, cleared_sector};
 ghost use Rattle.layer_heading.specs.Rebased.{is_touched, laid, name_place, rebased};
 
 use layer_creating::Backing;
@@ -93,4 +94,23 @@ pub(crate) fn name_sector(backing: &Backing) -> [u8; 512]
     let mut sector = [0; 512];
     sector[..36].copy_from_slice(&backing.parent.text());
     sector
+}
+
+/// The header without the features that a writer clears.
+pub(crate) fn cleared(header: &Header) -> Header
+    ensures { result ≡ cleared header.now }
+{
+    let mut header = *header;
+    header.autoclear_features = 0;
+    header
+}
+
+/// The first sector of a file without them: bytes 88 to 95 are 0, and all others as they were.
+#[tactic(auto, unfolding(qcow_format::specs::Bytes::put))]
+pub(crate) fn cleared_sector(first: [u8; 512]) -> [u8; 512]
+    ensures { result ≡ cleared_sector first }
+{
+    let mut first = first;
+    first[88..96].copy_from_slice(&[0; 8]);
+    first
 }

@@ -1,9 +1,11 @@
-//! The header of a layer that is there gets another backing file.
+//! The header of a layer that is there gets another backing file, and loses the features that a writer clears.
 #![tactic(auto)]
 
+mod clearing;
 mod header;
 pub mod laws;
 mod rebasing;
 
+pub use clearing::Clearing;
 pub use header::rebased;
 pub use rebasing::{Rebasing, Stage};

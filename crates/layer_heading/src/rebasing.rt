@@ -35,7 +35,8 @@ pub struct Rebasing {
 }
 
 impl Rebasing {
-    ghost use Rattle.layer_heading.specs.Rebasing.{CallOf, IsAt, IsSameRebasing, KeepsLayer, LaysHeader, Steps, SyncsThen, WritesThen, at_stage, backing_of, rebasing_left, stage_of};
+    ghost use Rattle.layer_heading.specs.Rebasing.{CallOf, IsAt, IsSameRebasing, KeepsLayer, LaysHeader, Steps, at_stage, backing_of, rebasing_left, stage_of};
+    ghost use Rattle.layer_heading.specs.Writing.{SyncsThen, WritesThen};
     ghost use Rattle.sd_names.specs.Turn.{MatchTurn};
     ghost use Rattle.qcow_layer.specs.Opening.{header_kept, place_kept};
     ghost use Rattle.layer_creating.specs.New.{name_sector};

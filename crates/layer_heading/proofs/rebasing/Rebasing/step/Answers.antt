@@ -4,9 +4,10 @@ use Rattle.qcow_layer.specs.declared.layer.Layer.{Layer}
 use Rattle.layer_creating.specs.New.{name_sector}
 use Rattle.layer_heading.specs.declared.rebasing.Stage.{Stage}
 use Rattle.layer_heading.specs.Rebased.{name_place}
-use Rattle.layer_heading.specs.Rebasing.{KnowsIn, WritesThen, backing_of, name_at}
-use Rattle.layer_heading.proofs.Frames.{Rebases, at_same, read_elsewhere, sync_elsewhere, write_elsewhere}
-use Rattle.layer_heading.proofs.Steps.{begun_here, headed_here, laid_here, named_here, read_here}
+use Rattle.layer_heading.specs.Rebasing.{KnowsIn, backing_of, name_at}
+use Rattle.layer_heading.specs.Writing.{WritesThen}
+use Rattle.layer_heading.proofs.Frames.{at_same, read_elsewhere, sync_elsewhere, write_elsewhere}
+use Rattle.layer_heading.proofs.Steps.{Rebases, begun_here, headed_here, laid_here, named_here, read_here}
 use Rattle.layer_heading.proofs.rebasing.Rebasing.step.Goals as goal
 
 -- a write of the same sector at the same place
