@@ -5,6 +5,7 @@ use qcow_layer::{Layer, Looked, Looking, Opening};
 use sd_names::{Dir, HostId, Id, LayerFault, Name, NoMemory, Place, Refusal, Turn};
 use std::alloc::{AllocError, Global};
 
+mod clearing;
 mod creating;
 mod failing;
 mod faults;

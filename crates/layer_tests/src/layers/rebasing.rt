@@ -50,7 +50,12 @@ fn rebase(disk: &mut Memory, host: HostId, layer: &mut Layer, format: Format, st
 }
 
 // A disk with the file of a layer, which fails in this call, from 0, and settles unsynced sectors so.
-fn disk_of(alloc: Global, failing: u64, pick: Pick, file: &[u8]) -> Result<Memory, NoMemory> {
+pub(super) fn disk_of(
+    alloc: Global,
+    failing: u64,
+    pick: Pick,
+    file: &[u8],
+) -> Result<Memory, NoMemory> {
     let mut list = Vec::new(alloc);
     let mut picks = Vec::new(alloc);
     if list.push(failing).is_err() || picks.push(pick).is_err() {
@@ -64,7 +69,7 @@ fn disk_of(alloc: Global, failing: u64, pick: Pick, file: &[u8]) -> Result<Memor
 }
 
 // Whether the medium has exactly the first 65,536 of these bytes, or all of them where they are fewer.
-fn stands(disk: &Memory, file: &[u8]) -> bool {
+pub(super) fn stands(disk: &Memory, file: &[u8]) -> bool {
     let mut room = [0; 65_536];
     let length = if file.len() < 65_536 {
         file.len()
@@ -93,7 +98,7 @@ fn across_rebased(alloc: Global) -> Result<Vec<u8>, AllocError> {
 
 // A layer with a long header, features that a writer clears, extensions of 3,000 bytes and of no bytes around the backing
 // format, and a name behind them.
-fn extended(alloc: Global) -> Result<Vec<u8>, AllocError> {
+pub(super) fn extended(alloc: Global) -> Result<Vec<u8>, AllocError> {
     let mut file = over_raw(alloc)?;
     lay_number(&mut file, 8, 8, 9_000);
     lay(&mut file, 9_000, &OLD_NAME);
