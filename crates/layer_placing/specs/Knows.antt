@@ -127,7 +127,7 @@ KeepsList (Begun asked) xs = length xs ≡ asked.count
 KeepsList stage xs = xs ≡ chosen_in stage
 
 abbrev pub KeepsChosen : Stage → Turn Stage Clusters (Unit {0}) → Type 0
-KeepsChosen stage turn = MatchTurn turn (λ next. KeepsList stage (chosen_in next)) (λ chosen. listed chosen ≡ chosen_in stage) (λ _ _. Unit {0})
+KeepsChosen stage turn = MatchTurn turn (λ next. KeepsList stage (chosen_in next)) (λ chosen. KeepsList stage (listed chosen)) (λ _ _. Unit {0})
 
 -- in the first step, the least free clusters below the room are chosen
 abbrev pub IsChoice : Layer → ℕ → File → Stage → List ℕ → Type 0

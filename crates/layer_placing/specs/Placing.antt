@@ -33,7 +33,7 @@ placing_left pieces placing = stage_left pieces placing.stage
 
 -- the first step chooses as many clusters as were asked for, and each further step keeps them
 abbrev pub KeepsClusters : Placing → Turn Placing Clusters (Unit {0}) → Type 0
-KeepsClusters placing turn = MatchTurn turn (λ next. KeepsList placing.stage (chosen_by next)) (λ chosen. listed chosen ≡ chosen_by placing) (λ _ _. Unit {0})
+KeepsClusters placing turn = MatchTurn turn (λ next. KeepsList placing.stage (chosen_by next)) (λ chosen. KeepsList placing.stage (listed chosen)) (λ _ _. Unit {0})
 
 -- what it knows of the layer's file
 abbrev pub KnowsFile : Placing → Layer → ℕ → File → Type 0
