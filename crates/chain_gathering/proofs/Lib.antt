@@ -9,3 +9,4 @@ pub mod Costs
 pub mod Missing
 pub mod Survival
 pub mod Fewer
+pub mod Records

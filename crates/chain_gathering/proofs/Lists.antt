@@ -10,9 +10,10 @@ use Rattle.std.specs.declared.cmp.Ordering.TheVariants.{Less}
 use Rattle.sd_names.specs.declared.id.Id.{Id}
 use Rattle.shared_disk.proofs.Outcomes.{contains_here, contains_more, nothing_in, cons_cases}
 use Rattle.chain_model.specs.Opening.{id_cmp}
-use Rattle.chain_gathering.specs.Kept.{first_id, ids_found, ids_of, is_last, noted}
+use Rattle.chain_records.specs.Records.{ids_of}
+use Rattle.chain_gathering.specs.Kept.{first_id, ids_found, is_last, noted}
 use Rattle.chain_gathering.specs.declared.found.Found.{Found}
-use Rattle.chain_gathering.specs.declared.records.Volume.{Volume}
+use Rattle.chain_records.specs.declared.volume.Volume.{Volume}
 
 -- an element of a list with one more at its end
 pub snoc_cases : {X : Type 0} (x y : X) (xs : List X) → Contains (xs ++ y ∷ []) x → Contains xs x ⊎ (y ≡ x)

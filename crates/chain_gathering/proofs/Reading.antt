@@ -27,13 +27,14 @@ use Rattle.chain_model.specs.Folder.{Volumes}
 use Rattle.chain_model.specs.Opening.{AreVolumes, Check, FirstRefusal, IsBadText, count, text}
 use Rattle.chain_model.specs.Records.{Image, stored_text, text_of}
 use Rattle.chain_model.proofs.Texts.{text_seen}
-use Rattle.chain_gathering.specs.Kept.{first_file, first_id, ids_found, ids_of, kept_with, next_has_file, next_of}
+use Rattle.chain_records.specs.Records.{ids_of}
+use Rattle.chain_gathering.specs.Kept.{first_file, first_id, ids_found, kept_with, next_has_file, next_of}
 use Rattle.chain_gathering.specs.Knowing.{ArePassed, AreSettled, IsFirst, IsGathered, IsRead, IsThere, first_checks, volumes_in}
 use Rattle.chain_gathering.specs.Stages.{dir_in, image_in}
 use Rattle.chain_gathering.specs.declared.found.Found.{Found}
 use Rattle.chain_gathering.specs.declared.gathered.Gathered.{Gathered}
 use Rattle.chain_gathering.specs.declared.names.VolumeName.TheVariants.{Text}
-use Rattle.chain_gathering.specs.declared.records.Volume.{Volume}
+use Rattle.chain_records.specs.declared.volume.Volume.{Volume}
 use Rattle.chain_gathering.specs.declared.stages.Target.{Target}
 use Rattle.chain_gathering.proofs.Lists.{IsSplit, length_ids, mapped_in, none_next, noted_front, noted_longer, snoc_cases, split_next}
 use Rattle.chain_gathering.specs.Kept.{noted}

@@ -36,7 +36,8 @@ use Rattle.volume_meta.specs.Read.{read_volume}
 use Rattle.volume_meta.specs.declared.record.VolumeRecord.{VolumeRecord}
 use Rattle.chain_model.specs.Opening.{AreVolumes}
 use Rattle.chain_model.specs.Records.{is_volume, text_of}
-use Rattle.chain_gathering.specs.Kept.{ids_found, ids_of, next_of}
+use Rattle.chain_records.specs.Records.{ids_of}
+use Rattle.chain_gathering.specs.Kept.{ids_found, next_of}
 use Rattle.chain_gathering.specs.Knowing.{IsNextFile, IsRead, IsThere, KnowsListing, KnowsStage, volumes_in}
 use Rattle.chain_gathering.specs.Names.{name_of, volume_name}
 use Rattle.chain_gathering.specs.Stages.{GatheringTurn, KeepsRecord, KeepsText, Lists, MeetsNext, ReadsNext, SyncsFile, after_sync, at_stage, dir_in, image_in, met_stage}
@@ -46,7 +47,7 @@ use Rattle.chain_gathering.specs.declared.gathered.Gathered.{Gathered}
 use Rattle.chain_gathering.specs.declared.gathering.Gathering.{Gathering}
 use Rattle.chain_gathering.specs.declared.names.VolumeName.{VolumeName}
 use Rattle.chain_gathering.specs.declared.names.VolumeName.TheVariants.{Data, Text}
-use Rattle.chain_gathering.specs.declared.records.Volume.{Volume}
+use Rattle.chain_records.specs.declared.volume.Volume.{Volume}
 use Rattle.chain_gathering.specs.declared.stages.Seen.{Seen}
 use Rattle.chain_gathering.specs.declared.stages.Stage.{Stage}
 use Rattle.chain_gathering.specs.declared.stages.Stage.TheVariants.{Listing, Syncing, Reading}

@@ -4,7 +4,7 @@ use Rattle.sd_names.specs.declared.id.Id.{Id}
 use Rattle.shared_disk.specs.Places.{id_is}
 use Rattle.volume_meta.specs.declared.record.VolumeRecord.{VolumeRecord}
 use Rattle.chain_gathering.specs.declared.found.Found.{Found}
-use Rattle.chain_gathering.specs.declared.records.Volume.{Volume}
+use Rattle.chain_records.specs.declared.volume.Volume.{Volume}
 use Rattle.chain_gathering.specs.declared.gathered.Gathered.{Gathered}
 
 abbrev pub found_in : Gathered → List Found
@@ -16,9 +16,6 @@ records_kept g = g.records
 -- the volumes of each list
 abbrev pub ids_found : List Found → List Id
 ids_found ws = map (λ w. w.id) ws
-
-abbrev pub ids_of : List Volume → List Id
-ids_of xs = map (λ x. x.id) xs
 
 -- the first volume whose file isn't there
 abbrev pub first_missing : List Found → Option Id

@@ -15,13 +15,14 @@ use Rattle.shared_disk.specs.NameCalls.{IsNameAbove, ShowsName, place_in}
 use Rattle.chain_model.specs.Folder.{Volumes, folder_of, volumes_of}
 use Rattle.chain_model.specs.Opening.{AreVolumes, Check, FirstRefusal, count, id_cmp, text}
 use Rattle.chain_model.specs.Records.{Image, is_volume, text_of}
-use Rattle.chain_gathering.specs.Kept.{ids_found, ids_of}
+use Rattle.chain_records.specs.Records.{ids_of}
+use Rattle.chain_gathering.specs.Kept.{ids_found}
 use Rattle.chain_gathering.specs.Names.{IsPassed, name_of}
 use Rattle.chain_gathering.specs.Stages.{dir_in, image_in}
 use Rattle.chain_gathering.specs.declared.found.Found.{Found}
 use Rattle.chain_gathering.specs.declared.gathered.Gathered.{Gathered}
 use Rattle.chain_gathering.specs.declared.names.VolumeName.{VolumeName}
-use Rattle.chain_gathering.specs.declared.records.Volume.{Volume}
+use Rattle.chain_records.specs.declared.volume.Volume.{Volume}
 use Rattle.chain_gathering.specs.declared.stages.Seen.{Seen}
 use Rattle.chain_gathering.specs.declared.stages.Stage.{Stage}
 use Rattle.chain_gathering.specs.declared.stages.Stage.TheVariants.{Listing, Syncing, Reading}

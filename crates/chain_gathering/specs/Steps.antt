@@ -18,7 +18,8 @@ use Rattle.shared_disk.specs.NameCalls.{IsNameAbove, ShowsName, place_in}
 use Rattle.shared_disk.specs.Step.{IsDiskRefusal}
 use Rattle.volume_meta.specs.declared.record.VolumeRecord.{VolumeRecord}
 use Rattle.chain_model.specs.Records.{text_of}
-use Rattle.chain_gathering.specs.Kept.{ids_found, ids_of, next_of}
+use Rattle.chain_records.specs.Records.{ids_of}
+use Rattle.chain_gathering.specs.Kept.{ids_found, next_of}
 use Rattle.chain_gathering.specs.Knowing.{AreSettled, IsFirst, IsGathered, KnowsStage, volumes_in}
 use Rattle.chain_gathering.specs.Names.{name_of, price}
 use Rattle.chain_gathering.specs.Stages.{GatheringTurn, dir_in, image_in}

@@ -3,7 +3,7 @@ ghost use Rattle.std.specs.Prelude.{◌≡◌, ◌<◌, ◌≤◌, ◌++◌, [],
 ghost use Rattle.chain_gathering.specs.Kept.{first_missing, found_in, is_last, kept_with, next_has_file, next_of, noted, records_kept};
 
 use crate::found::{Found, FoundVolumes, MOST};
-use crate::records::{Volume, VolumeRecords};
+use chain_records::{Volume, VolumeRecords};
 use sd_names::{Id, NoMemory};
 use std::alloc::Global;
 use volume_meta::VolumeRecord;

@@ -15,8 +15,9 @@ ghost use Rattle.chain_model.specs.Folder.{folder_of};
 ghost use Rattle.chain_model.specs.Growth.{MayHaveGrown};
 ghost use Rattle.chain_model.specs.Opening.{Check, FirstRefusal, id_cmp, there};
 ghost use Rattle.chain_model.specs.Records.{is_volume};
+ghost use Rattle.chain_records.specs.Shown.{AreRead};
 ghost use Rattle.chain_gathering.specs.Gathering.{HasGathered, Knows, Meets, folder, image};
-ghost use Rattle.chain_gathering.specs.Kept.{first_missing, found_in, ids_found};
+ghost use Rattle.chain_gathering.specs.Kept.{first_missing, found_in, ids_found, records_kept};
 ghost use Rattle.chain_gathering.specs.Knowing.{volumes_in};
 ghost use Rattle.chain_gathering.specs.Names.{IsCost, cost_of, price};
 ghost use Rattle.chain_gathering.specs.Stages.{GatheringTurn};
@@ -54,6 +55,12 @@ pub fn missing_files_are_refused()
     ensures none { (g : AnyGathering) (kept : AnyGathered) (d : Content) (rest : List Check) (e : Refusal) → HasGathered g kept d → first_missing (found_in kept) ≡ None
         → FirstRefusal (image g) (volumes_in (folder g) d) (ids_found (found_in kept)) rest e
         → FirstRefusal (image g) (volumes_in (folder g) d) (ids_found (found_in kept)) (map there (ids_found (found_in kept)) ++ rest) e }
+{}
+
+/// A law: what was gathered of an image is what its texts say, and which files are there, so that the checks that follow may
+/// go by the records.
+pub fn gathered_records_are_read()
+    ensures { (g : AnyGathering) (kept : AnyGathered) (d : Content) → HasGathered g kept d → AreRead (image g) (volumes_in (folder g) d) (records_kept kept) }
 {}
 
 /// A law: the texts of identifiers are in the order of their bytes, whatever follows them.

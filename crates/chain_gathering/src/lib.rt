@@ -7,10 +7,8 @@ mod gathered;
 mod gathering;
 pub mod laws;
 mod names;
-mod records;
 mod stages;
 
 pub use found::{Found, FoundVolumes};
 pub use gathered::Gathered;
 pub use gathering::Gathering;
-pub use records::{Volume, VolumeRecords};

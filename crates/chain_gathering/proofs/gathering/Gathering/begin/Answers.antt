@@ -1,7 +1,8 @@
 use Rattle.std.proofs.Common.{◌≡◌, List, [], length, take, refl, sym, ap, subst, arith}
-use Rattle.chain_gathering.specs.Kept.{ids_found, ids_of}
+use Rattle.chain_records.specs.Records.{ids_of}
+use Rattle.chain_gathering.specs.Kept.{ids_found}
 use Rattle.chain_gathering.specs.declared.gathered.Gathered.{Gathered}
-use Rattle.chain_gathering.specs.declared.records.Volume.{Volume}
+use Rattle.chain_records.specs.declared.volume.Volume.{Volume}
 use Rattle.chain_gathering.proofs.Listing.{knows_at_first}
 use Rattle.chain_gathering.proofs.gathering.Gathering.begin.Goals as goal
 
