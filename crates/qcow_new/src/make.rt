@@ -15,11 +15,7 @@ pub(crate) const LAYER: &str = "00000000-0000-0000-0000-000000000000/images/\
     00000000-0000-0000-0000-000000000000/00000000-0000-0000-0000-000000000000";
 
 // Makes a folder, where it isn't there yet.
-fn make_dir(
-    disk: &mut FolderDisk<&HostRuntime>,
-    host: HostId,
-    dir: Dir,
-) -> Result<(), Refusal> {
+fn make_dir(disk: &mut FolderDisk<&HostRuntime>, host: HostId, dir: Dir) -> Result<(), Refusal> {
     if dir.is(&Dir::Root) {
         return Ok(());
     }
