@@ -1,6 +1,7 @@
 -- What each step leaves, from what its call answered.
 use Rattle.std.proofs.Common.{◌≡◌, ◌≢◌, ℕ, ◌≤◌, Bool, true, false, nat_lt, if◌then◌else◌, List, ◌∷◌, length, take, Option, Some, None, Result, Ok, Err, refl, sym, ap, ◌∙◌, subst, inl, inr, arith}
 use Rattle.std.specs.List.{Contains}
+use Rattle.std.specs.Option.{is_some}
 use Rattle.std.specs.Prelude.{MatchResult}
 use Rattle.std.proofs.lemmas.List.Elements.{Contains-append_right}
 use Rattle.std.proofs.lemmas.Bool.{false≢true}
@@ -41,7 +42,7 @@ use Rattle.chain_gathering.specs.Kept.{ids_found, next_of}
 use Rattle.chain_gathering.specs.Knowing.{IsNextFile, IsRead, IsThere, KnowsListing, KnowsStage, volumes_in}
 use Rattle.chain_gathering.specs.Names.{name_of, volume_name}
 use Rattle.chain_gathering.specs.Stages.{GatheringTurn, KeepsRecord, KeepsText, Lists, MeetsNext, ReadsNext, SyncsFile, after_sync, at_stage, dir_in, image_in, met_stage}
-use Rattle.chain_gathering.specs.Steps.{After, Gathers, IsGone, IsKeptFile, IsShown, MeetsBy}
+use Rattle.chain_gathering.specs.Steps.{After, Gathers, IsGone, IsKeptFile, IsOfText, IsShown, MeetsBy}
 use Rattle.chain_gathering.specs.declared.found.Found.{Found}
 use Rattle.chain_gathering.specs.declared.gathered.Gathered.{Gathered}
 use Rattle.chain_gathering.specs.declared.gathering.Gathering.{Gathering}
@@ -67,6 +68,7 @@ kept_itself host (Some f) = inl refl
 record Tells (g : Gathering) (host : ℕ) (turn : GatheringTurn) (d e : Content) : Type 0 where
   shows : MeetsBy (IsShown (dir_in g.target) d) g.stage turn
   gone : MatchTurn turn (λ _. Unit {0}) (λ _. Unit {0}) (λ _ refusal. IsGone g.target g.kept g.stage refusal d)
+  there : MatchTurn turn (λ _. Unit {0}) (λ _. Unit {0}) (λ _ refusal. IsOfText g.target g.kept refusal d)
   after : KnowsStage g.target g.kept host d g.stage → After g host turn e
 
 same_step : (g : Gathering) (host : ℕ) (turn : GatheringTurn) (d e : Content) → IsSame d e → Tells g host turn d d → Gathers g host turn d e
@@ -77,12 +79,13 @@ same_step g host turn d e same tells = subst (λ (c : Content). Gathers g host t
   outcomes = λ o out. out;
   shows = tells.shows;
   gone = tells.gone;
+  there = tells.there;
   after = tells.after;
 })
 
 -- the disk failed
 tells_fault : (g : Gathering) (host faults : ℕ) (d : Content) → Tells g host (Ended tt (DiskFault faults)) d d
-tells_fault g host faults d = record { shows = tt; gone = tt; after = λ knows. tt }
+tells_fault g host faults d = record { shows = tt; gone = tt; there = tt; after = λ knows. tt }
 
 -- ---- listing
 
@@ -113,6 +116,7 @@ tells_listed : (g : Gathering) (host : ℕ) (seen : Seen) (t : Bool) (d : Conten
 tells_listed g host seen true d t last = record {
   shows = tt;
   gone = tt;
+  there = tt;
   after = λ k. (
     all_settled (dir_in g.target) host seen g.kept d last k,
     too_many (image_in g.target) (volumes_in (dir_in g.target) d) k.volumes seen.count (all_volumes (dir_in g.target) host seen g.kept d last k) k.count (grind (arith, nat_tests)),
@@ -121,6 +125,7 @@ tells_listed g host seen true d t last = record {
 tells_listed g host seen false d t last = record {
   shows = tt;
   gone = tt;
+  there = tt;
   after = λ k. (k.folder, begins_reading g.target host seen g.kept d t last k);
 }
 
@@ -140,10 +145,10 @@ named_by (name.TaskNew v) o e = absurd cc
 
 tells_met : (g : Gathering) (host : ℕ) (seen : Seen) (n : Name) (o : Option VolumeName) (d : Content) → volume_name n ≡ o → NameHasIds n → IsNextName d (dir_in g.target) seen.after (Some n)
     → Tells (at_stage g (Listing seen)) host (More (at_stage g (met_stage seen n o))) d d
-tells_met g host seen n None d e ids next = record { shows = next.0; gone = tt; after = λ k. pass_other (dir_in g.target) host seen g.kept n d e ids next k }
+tells_met g host seen n None d e ids next = record { shows = next.0; gone = tt; there = tt; after = λ k. pass_other (dir_in g.target) host seen g.kept n d e ids next k }
 tells_met g host seen n (Some o) d e ids next =
     let own : IsNextName d (dir_in g.target) seen.after (Some (name_of o)) = subst (λ (m : Name). IsNextName d (dir_in g.target) seen.after (Some m)) (named_by n o e) next in
-    record { shows = own.0; gone = tt; after = λ k. (k, is_next (dir_in g.target) seen.after o d own) }
+    record { shows = own.0; gone = tt; there = tt; after = λ k. (k, is_next (dir_in g.target) seen.after o d own) }
 
 list_at : (g : Gathering) (host faults : ℕ) (seen : Seen) (turn : GatheringTurn) (d e : Content) (answer : Result (Option Name) DiskAnswer) → NextName d (dir_in g.target) seen.after answer e
     → TurnFollows answer faults turn (MeetsNext g seen turn) → Gathers (at_stage g (Listing seen)) host turn d e
@@ -157,7 +162,7 @@ list_at g host faults seen turn d e (Err Failed) call by =
     same_step (at_stage g (Listing seen)) host turn d e call (subst (λ (t : GatheringTurn). Tells (at_stage g (Listing seen)) host t d d) (sym by) (tells_fault (at_stage g (Listing seen)) host faults d))
 list_at g host faults seen turn d e (Err NoFile) call by =
     same_step (at_stage g (Listing seen)) host turn d e call.0
-    (subst (λ (t : GatheringTurn). Tells (at_stage g (Listing seen)) host t d d) (sym by) (record { shows = tt; gone = (refl, call.1); after = λ k. absurd (false≢true (sym call.1 ∙ k.folder.there)) }))
+    (subst (λ (t : GatheringTurn). Tells (at_stage g (Listing seen)) host t d d) (sym by) (record { shows = tt; gone = (refl, call.1); there = tt; after = λ k. absurd (false≢true (sym call.1 ∙ k.folder.there)) }))
 list_at g host faults seen turn d e (Err Exists) call by = absurd call
 list_at g host faults seen turn d e (Err OutOfFile) call by = absurd call
 list_at g host faults seen turn d e (Err NotEmpty) call by = absurd call
@@ -229,6 +234,7 @@ sync_done g host seen o f d e there put =
       outcomes = λ c out. outcomes_kept host d e c put.dirs kept out;
       shows = tt;
       gone = tt;
+      there = tt;
       after = λ knows. sync_knows g host seen o (synced host f) e put.here (synced_settled host f (knows.0.folder.alone o f there))
           (listing_alike (dir_in g.target) host seen g.kept d e alike knows.0) (next_alike (dir_in g.target) host seen.after o d e alike knows.1);
     }
@@ -243,6 +249,7 @@ sync_at g host faults seen o turn d e (Err NoFile) call by =
     same_step (at_stage g (Syncing seen o)) host turn d e call.0 (subst (λ (t : GatheringTurn). Tells (at_stage g (Syncing seen o)) host t d d) (sym by) (record {
       shows = tt;
       gone = (refl, call.1);
+      there = tt;
       after = λ knows. absurd (no_file knows.1.shows.0 (d.file (place_in (dir_in g.target) (name_of o))) call.1 knows.1.shows.1);
     }))
 sync_at g host faults seen o turn d e (Err Exists) call by = absurd call
@@ -256,14 +263,14 @@ sync_step g host faults seen o turn d e is call =
 -- ---- reading
 
 -- what was read of a text that is settled
-tells_record : (g : Gathering) (host : ℕ) (v : Id) (turn : GatheringTurn) (d : Content) (r : Result VolumeRecord VolumeFault) → next_of g.kept ≡ Some v
+tells_record : (g : Gathering) (host : ℕ) (v : Id) (turn : GatheringTurn) (d : Content) (r : Result VolumeRecord VolumeFault) → next_of g.kept ≡ Some v → is_volume (volumes_in (dir_in g.target) d) v ≡ true
     → (KnowsStage g.target g.kept host d Reading → text_of (image_in g.target) (volumes_in (dir_in g.target) d) v ≡ Some r) → KeepsRecord g v r turn → Tells (at_stage g Reading) host turn d d
-tells_record g host v turn d (Ok x) next text (inl by) =
-    subst (λ (t : GatheringTurn). Tells (at_stage g Reading) host t d d) (sym by) (record { shows = tt; gone = tt; after = λ k. (k.1.settled, (v, next, x, text k)) })
-tells_record g host v turn d (Ok x) next text (inr by) =
-    subst (λ (t : GatheringTurn). Tells (at_stage g Reading) host t d d) (sym by) (record { shows = tt; gone = tt; after = λ k. (k.0, read_on g.target g.kept v x d k.1 next (text k)) })
-tells_record g host v turn d (Err fault) next text by =
-    subst (λ (t : GatheringTurn). Tells (at_stage g Reading) host t d d) (sym by) (record { shows = tt; gone = tt; after = λ k. (k.1.settled, read_bad g.target g.kept v fault d k.1 next (text k)) })
+tells_record g host v turn d (Ok x) next held text (inl by) =
+    subst (λ (t : GatheringTurn). Tells (at_stage g Reading) host t d d) (sym by) (record { shows = tt; gone = tt; there = (v, next, held); after = λ k. (k.1.settled, (v, next, x, text k)) })
+tells_record g host v turn d (Ok x) next held text (inr by) =
+    subst (λ (t : GatheringTurn). Tells (at_stage g Reading) host t d d) (sym by) (record { shows = tt; gone = tt; there = tt; after = λ k. (k.0, read_on g.target g.kept v x d k.1 next (text k)) })
+tells_record g host v turn d (Err fault) next held text by =
+    subst (λ (t : GatheringTurn). Tells (at_stage g Reading) host t d d) (sym by) (record { shows = tt; gone = tt; there = (next, held); after = λ k. (k.1.settled, read_bad g.target g.kept v fault d k.1 next (text k)) })
 
 -- a volume that is listed has its text
 has_text : (t : Target) (kept : Gathered) (v : Id) (d : Content) → IsRead t kept d → next_of kept ≡ Some v → is_volume (volumes_in (dir_in t) d) v ≡ true
@@ -278,14 +285,15 @@ read_text_at g host faults v room turn d e (Ok read.Absent) next call by =
     same_step (at_stage g Reading) host turn d e call.0 (subst (λ (t : GatheringTurn). Tells (at_stage g Reading) host t d d) (sym by) (record {
       shows = tt;
       gone = (refl, (v, next, call.1));
+      there = tt;
       after = λ k. let f = some_of (d.file (place_in (dir_in g.target) (name.Meta v))) (has_text g.target g.kept v d k.1 next) in absurd (no_file f.0 (d.file (place_in (dir_in g.target) (name.Meta v))) call.1 f.1);
     }))
 read_text_at g host faults v room turn d e (Ok read.Long) next call by =
     same_step (at_stage g Reading) host turn d e call.0
-    (tells_record g host v turn d (Err TooLong) next (λ k. long_read g.target host v room d k.1.settled call.1) by)
+    (tells_record g host v turn d (Err TooLong) next (ap is_some call.1.1) (λ k. long_read g.target host v room d k.1.settled call.1) by)
 read_text_at g host faults v room turn d e (Ok (read.Bytes n)) next call by =
     same_step (at_stage g Reading) host turn d e call.0
-    (tells_record g host v turn d (read_volume g.target.version g.target.sd g.target.image (take n room)) next (λ k. text_read g.target host n v room d k.1.settled call.1) by)
+    (tells_record g host v turn d (read_volume g.target.version g.target.sd g.target.image (take n room)) next (ap is_some call.1.1) (λ k. text_read g.target host n v room d k.1.settled call.1) by)
 read_text_at g host faults v room turn d e (Err refusal) next call by =
     same_step (at_stage g Reading) host turn d e call.0
     (subst (λ (t : GatheringTurn). Tells (at_stage g Reading) host t d d) (sym (by ∙ ap (λ (x : Refusal). Ended tt x) call.1)) (tells_fault (at_stage g Reading) host faults d))
@@ -293,7 +301,7 @@ read_text_at g host faults v room turn d e (Err refusal) next call by =
 read_at : (g : Gathering) (host faults : ℕ) (next : Option Id) (turn : GatheringTurn) (d e : Content) → next_of g.kept ≡ next → ReadsNext g next host faults turn d e → Gathers (at_stage g Reading) host turn d e
 read_at g host faults None turn d e next call =
     same_step (at_stage g Reading) host turn d e call.0
-    (subst (λ (t : GatheringTurn). Tells (at_stage g Reading) host t d d) (sym call.1) (record { shows = tt; gone = tt; after = λ k. read_all g.target g.kept d k.1 next }))
+    (subst (λ (t : GatheringTurn). Tells (at_stage g Reading) host t d d) (sym call.1) (record { shows = tt; gone = tt; there = tt; after = λ k. read_all g.target g.kept d k.1 next }))
 read_at g host faults (Some v) turn d e next call = read_text_at g host faults v call.1 turn d e call.0 next call.2 call.3
 
 pub read_step : (g : Gathering) (host faults : ℕ) (turn : GatheringTurn) (d e : Content) → g.stage ≡ Reading → ReadsNext g (next_of g.kept) host faults turn d e → Gathers g host turn d e

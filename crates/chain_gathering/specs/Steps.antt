@@ -1,5 +1,5 @@
 -- What a step of a gathering leaves.
-use Rattle.std.specs.Prelude.{◌≡◌, ◌⊎◌, ℕ, ◌+◌, ◌-◌, ◌<◌, ◌≤◌, false, length, take, Option, Some, None, Ok}
+use Rattle.std.specs.Prelude.{◌≡◌, ◌⊎◌, ℕ, ◌+◌, ◌-◌, ◌<◌, ◌≤◌, false, true, length, take, Option, Some, None, Ok}
 use Rattle.sd_names.specs.Place.{NameHasIds}
 use Rattle.sd_names.specs.Turn.{MatchTurn}
 use Rattle.sd_names.specs.declared.absence.Absence.TheVariants as absence
@@ -17,7 +17,7 @@ use Rattle.shared_disk.specs.Crash.{IsAlso, IsOutcome}
 use Rattle.shared_disk.specs.NameCalls.{IsNameAbove, ShowsName, place_in}
 use Rattle.shared_disk.specs.Step.{IsDiskRefusal}
 use Rattle.volume_meta.specs.declared.record.VolumeRecord.{VolumeRecord}
-use Rattle.chain_model.specs.Records.{text_of}
+use Rattle.chain_model.specs.Records.{is_volume, text_of}
 use Rattle.chain_records.specs.Records.{ids_of}
 use Rattle.chain_gathering.specs.Kept.{ids_found, next_of}
 use Rattle.chain_gathering.specs.Knowing.{AreSettled, IsFirst, IsGathered, KnowsStage, volumes_in}
@@ -117,6 +117,12 @@ abbrev pub IsGone : Target → Gathered → Stage → Refusal → Content → Ty
 IsGone t kept stage (Vanished a) d = (a ≡ absence.NoFile) × IsGoneAt t kept stage d
 IsGone t kept stage _ d = Unit {0}
 
+-- where a step tells a fault of a text, or has no memory for its record, that text is there
+abbrev pub IsOfText : Target → Gathered → Refusal → Content → Type 0
+IsOfText t kept (MetaCorrupt v fault) d = (next_of kept ≡ Some v) × (is_volume (volumes_in (dir_in t) d) v ≡ true)
+IsOfText t kept OutOfMemory d = (v : Id) × (next_of kept ≡ Some v) × (is_volume (volumes_in (dir_in t) d) v ≡ true)
+IsOfText t kept _ d = Unit {0}
+
 -- the text that was read has no fault
 abbrev pub HasNoFault : Target → Gathered → Content → Type 0
 HasNoFault t kept d = (v : Id) × (next_of kept ≡ Some v) × (x : VolumeRecord) × (text_of (image_in t) (volumes_in (dir_in t) d) v ≡ Some (Ok x))
@@ -145,4 +151,5 @@ pub record Gathers (g : Gathering) (host : ℕ) (turn : GatheringTurn) (d e : Co
   pub outcomes : (o : Content) → IsOutcome e o → IsOutcome d o
   pub shows : MeetsBy (IsShown (dir_in g.target) d) g.stage turn
   pub gone : MatchTurn turn (λ _. Unit {0}) (λ _. Unit {0}) (λ _ refusal. IsGone g.target g.kept g.stage refusal d)
+  pub there : MatchTurn turn (λ _. Unit {0}) (λ _. Unit {0}) (λ _ refusal. IsOfText g.target g.kept refusal d)
   pub after : KnowsStage g.target g.kept host d g.stage → After g host turn e

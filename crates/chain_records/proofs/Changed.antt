@@ -7,7 +7,7 @@ use Rattle.shared_disk.specs.Places.{id_is}
 use Rattle.shared_disk.proofs.Places.{id_is-same}
 use Rattle.volume_meta.specs.declared.record.VolumeRecord.{VolumeRecord}
 use Rattle.chain_records.specs.declared.volume.Volume.{Volume}
-use Rattle.chain_records.specs.Records.{ids_of, records_in}
+use Rattle.chain_records.specs.Records.{files_of, ids_of, records_in}
 use Rattle.chain_records.specs.Rewriting.{IsAt, changed, with_meta}
 use Rattle.chain_records.proofs.Lists.{rest_is}
 
@@ -35,6 +35,11 @@ pub same_ids : (xs : List Volume) (i : ℕ) (x : Volume) (f : VolumeRecord → V
 same_ids [] i x f e = refl
 same_ids (z ∷ zs) zero x f e = let same : x ≡ z = cc in ap (λ (y : Volume). y.id ∷ ids_of zs) same
 same_ids (z ∷ zs) (suc i) x f e = ap (λ (vs : List Id). z.id ∷ vs) (same_ids zs i x f e)
+
+pub same_files : (xs : List Volume) (i : ℕ) (x : Volume) (f : VolumeRecord → VolumeRecord) → slice_get xs i ≡ Some x → files_of (slice_set xs i (with_meta f x)) ≡ files_of xs
+same_files [] i x f e = refl
+same_files (z ∷ zs) zero x f e = let same : x ≡ z = cc in ap (λ (y : Volume). y.has_file ∷ files_of zs) same
+same_files (z ∷ zs) (suc i) x f e = ap (λ (vs : List Bool). z.has_file ∷ vs) (same_files zs i x f e)
 
 record_here : (z : Volume) (f : VolumeRecord → VolumeRecord) (o : Option VolumeRecord) (u : Id)
     → (if id_is z.id u then Some (f z.meta) else o)

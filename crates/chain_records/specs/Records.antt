@@ -1,5 +1,5 @@
 -- Volumes and their records, as a list.
-use Rattle.std.specs.Prelude.{List, [], ◌∷◌, map, Option, Some, None, if◌then◌else◌}
+use Rattle.std.specs.Prelude.{Bool, List, [], ◌∷◌, map, Option, Some, None, if◌then◌else◌}
 use Rattle.sd_names.specs.declared.id.Id.{Id}
 use Rattle.shared_disk.specs.Places.{id_is}
 use Rattle.chain_model.specs.Records.{Records}
@@ -7,6 +7,10 @@ use Rattle.chain_records.specs.declared.volume.Volume.{Volume}
 
 abbrev pub ids_of : List Volume → List Id
 ids_of xs = map (λ x. x.id) xs
+
+-- whether the file of each is there
+abbrev pub files_of : List Volume → List Bool
+files_of xs = map (λ x. x.has_file) xs
 
 -- the record of each volume of a list
 abbrev pub records_in : List Volume → Records

@@ -1,7 +1,7 @@
 // Records that are rewritten in memory, as their texts are.
 ghost use Rattle.std.specs.Prelude.{◌≡◌, ◌<◌, IfNone, IfSome, None, length};
 ghost use Rattle.sd_names.specs.declared.id.Id.{Id as AnyId};
-ghost use Rattle.chain_records.specs.Records.{ids_of, records_in};
+ghost use Rattle.chain_records.specs.Records.{files_of, ids_of, records_in};
 ghost use Rattle.chain_records.specs.Rewriting.{IsAt, changed, naming, typed};
 
 use crate::records::VolumeRecords;
@@ -11,6 +11,7 @@ impl VolumeRecords {
     /// Lets a volume's record name this parent. Where there is no such volume, it does nothing.
     pub fn write_parent(&mut self, id: &Id, parent: Id)
         ensures ids { ids_of self.new ≡ ids_of self.old }
+        ensures files { files_of self.new ≡ files_of self.old }
         ensures records { (u : AnyId) → records_in self.new u ≡ changed id.now (naming parent) (records_in self.old) u }
     {
         if let Some(at) = self.position(id) {
@@ -21,6 +22,7 @@ impl VolumeRecords {
     /// Gives a volume's record this VOLTYPE. Where there is no such volume, it does nothing.
     pub fn write_voltype(&mut self, id: &Id, voltype: VolType)
         ensures ids { ids_of self.new ≡ ids_of self.old }
+        ensures files { files_of self.new ≡ files_of self.old }
         ensures records { (u : AnyId) → records_in self.new u ≡ changed id.now (typed voltype) (records_in self.old) u }
     {
         if let Some(at) = self.position(id) {
