@@ -23,7 +23,7 @@ use Rattle.chain_records.specs.Records.{first_missing, ids_of, records_in}
 use Rattle.chain_records.specs.Shown.{AreRead, IsShown}
 use Rattle.chain_records.proofs.Lists.{length_ids, record_among, some_record}
 
-same_records : (i : Image) (x : Volumes) (xs : List Volume) → AreRead i x xs → records_of i x ≡ records_in xs
+pub same_records : (i : Image) (x : Volumes) (xs : List Volume) → AreRead i x xs → records_of i x ≡ records_in xs
 same_records i x xs shown = λ j v. shown.records v j
 
 -- ---- one check
@@ -178,7 +178,7 @@ file_missing (Some f) e = absurd (false≢true (sym e))
 abbrev Flags : Volumes → List Volume → Type 0
 Flags x xs = (y : Volume) → Contains xs y → y.has_file ≡ is_some (x.file y.id)
 
-all_there : (x : Volumes) (xs : List Volume) → Flags x xs → first_missing xs ≡ None → (v : Id) → Contains (ids_of xs) v → (f : File) × (x.file v ≡ Some f)
+pub all_there : (x : Volumes) (xs : List Volume) → Flags x xs → first_missing xs ≡ None → (v : Id) → Contains (ids_of xs) v → (f : File) × (x.file v ≡ Some f)
 all_there x [] flags none v h = absurd (nothing_in v h)
 all_there x (y ∷ ys) flags none v h = go y.has_file refl none (all_there x ys (λ z g. flags z (contains_more y z ys g))) (cons_cases y.id v (ids_of ys) h)
   where

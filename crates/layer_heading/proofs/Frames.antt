@@ -14,8 +14,9 @@ use Rattle.shared_disk.specs.declared.disk.DiskAnswer.TheVariants.{NoFile, Exist
 use Rattle.shared_disk.proofs.AtPlace.{no_file, one_file}
 use Rattle.shared_disk.proofs.Outcomes.{settled_file}
 use Rattle.layer_writing.specs.Holding.{IsBetween, IsEither, with_sector}
-use Rattle.layer_writing.proofs.Sectors.{alone_writes, between_written, either_on_each, settled_alone}
+use Rattle.layer_writing.proofs.Sectors.{alone_writes, between_written, either_on_each}
 use Rattle.layer_heading.specs.Writing.{IsWriting, Turned}
+use Rattle.qcow_layer.proofs.Knowing.{settled_alone}
 
 -- all other places, and the folders
 pub record Elsewhere (place : Place) (d e : Content) : Type 0 where

@@ -16,9 +16,7 @@ use Rattle.layer_laws.proofs.Sound.{Shape, clean_of, entry_lt, entry_width, l1_c
 use Rattle.link_laws.specs.Links.{row_of, sector_at}
 use Rattle.link_laws.proofs.Many.{inside}
 use Rattle.link_laws.proofs.Rows.{lies_whole}
-use Rattle.layer_writing.proofs.Counts.{in_file}
 use Rattle.layer_writing.proofs.Known.{settled_medium}
-use Rattle.layer_writing.proofs.Sectors.{settled_alone, settled_seen}
 use Rattle.qcow_layer.specs.Knowing.{KnowsNumbers}
 use Rattle.qcow_layer.specs.Seen.{IsSeen}
 use Rattle.qcow_layer.specs.declared.layer.Layer.{Layer}
@@ -30,16 +28,6 @@ use Rattle.layer_linking.specs.declared.linking.Stage.{Stage}
 pub size_of : (n : ℕ) (s : ℕ → List ℕ) → (file_of n s).size ≡ 512 * n
 unfolding file_of
 size_of n s = refl
-
--- a file with nothing unsynced is seen as it is
-pub seen_settled : (host : ℕ) (place : Place) (f : File) (d : Content) → IsSettled f → d.file place ≡ Some f → IsSeen host place f.size f.stable d
-seen_settled host place f d settled there = record {
-  file = f;
-  there = there;
-  long = omega arith;
-  alone = (settled_alone host f settled).loose;
-  same = λ k lt. ap (λ (s : ℕ → List ℕ). s k) (settled_seen host f settled) ∙ sym (in_file f.size k f.stable lt);
-}
 
 pub near_is : (at : ℕ) → at < 2 ^ 64 → near at ≡ at
 near_is at lt = omega (arith, lt)

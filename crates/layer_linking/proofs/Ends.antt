@@ -15,10 +15,11 @@ use Rattle.shared_disk.proofs.Outcomes.{settled_file}
 use Rattle.std.specs.Prelude.{not, ◌==◌, ◌&&◌, ◌||◌, nat_lt}
 use Rattle.qcow_layer.specs.Knowing.{KnowsNumbers}
 use Rattle.qcow_layer.specs.declared.layer.Layer.{Layer}
+use Rattle.qcow_layer.proofs.Knowing.{settled_alone}
 use Rattle.layer_writing.specs.Holding.{IsBetween, IsEither, on_medium, with_sector}
 use Rattle.layer_writing.specs.Writer.{KnowsWriter}
 use Rattle.layer_writing.proofs.Known.{anew, between_synced}
-use Rattle.layer_writing.proofs.Sectors.{alone_writes, between_written, either_on_each, settled_alone}
+use Rattle.layer_writing.proofs.Sectors.{alone_writes, between_written, either_on_each}
 use Rattle.layer_linking.specs.Calls.{SyncsThen, WritesThen}
 use Rattle.layer_linking.specs.Linking.{HasEntered, HasLaid, IsAsBefore, IsLeftSo, IsLinkable, IsLinked, LinksOn}
 use Rattle.layer_linking.specs.declared.linking.Linking.{Linking}

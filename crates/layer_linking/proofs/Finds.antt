@@ -23,10 +23,10 @@ use Rattle.link_laws.proofs.Many as many
 use Rattle.link_laws.proofs.Made as made
 use Rattle.link_laws.proofs.Words.{length_laid, length_lay, word_laid_now, word_lay}
 use Rattle.layer_writing.specs.Holding.{on_medium, with_sector}
-use Rattle.layer_writing.proofs.Counts.{in_file}
 use Rattle.qcow_layer.proofs.Entries.{word_of_sector}
 use Rattle.qcow_layer.specs.Seen.{IsReadRefusal, IsSeen}
 use Rattle.qcow_layer.specs.declared.layer.Layer.{Layer}
+use Rattle.qcow_layer.proofs.Knowing.{in_file, seen_whole}
 use Rattle.layer_linking.specs.Calls.{FindsTable, LaysEntries, LaysTable, at_stage, entries_sector, group_of, l1_place, table_of, table_turn, to_of}
 use Rattle.layer_linking.specs.Linking.{HasFilled, HasLaid, IsAsBefore, IsLeftSo, IsLinkable, IsLinked, LinksOn, HasTable, tables_to}
 use Rattle.layer_linking.specs.declared.linking.Linking.{Linking}
@@ -46,7 +46,7 @@ refused layer l host n start f d e turn refusal there (inr gone) is left = absur
 read_of : (layer : Layer) (host k k' : ℕ) (f : File) (d : Content) (sector : List ℕ) → IsSettled f → d.file layer.target.place ≡ Some f → k ≡ k' → k' < f.size
     → ((count : ℕ) (sectors : ℕ → List ℕ) → IsSeen host layer.target.place count sectors d → sector ≡ sector_in count sectors k) → sector ≡ f.stable k'
 read_of layer host k k' f d sector settled there same lt read =
-    read f.size f.stable (begins.seen_settled host layer.target.place f d settled there) ∙ ap (sector_in f.size f.stable) same ∙ in_file f.size k' f.stable lt
+    read f.size f.stable (seen_whole host layer.target.place f d settled there) ∙ ap (sector_in f.size f.stable) same ∙ in_file f.size k' f.stable lt
 
 pub with_here : (k k' : ℕ) (bytes : List ℕ) (s : ℕ → List ℕ) → k' ≡ k → with_sector k bytes s k' ≡ bytes
 with_here k k' bytes s same = ap (λ (b : Bool). if b then bytes else s k') (eq-eqb k' k same)
@@ -88,7 +88,7 @@ module _ (layer : Layer) (l : Linking) (host n : ℕ) (start : File) (d e : Cont
       let has : (place : ℕ) × (l1_entry T i ≡ Ok (Some place)) = subst (λ (o : Option ℕ). HasTable T layer.target.capacity (group_of l) (to_of l) o) none b.table in
       let at : ℕ = l1_place layer.work.header (group_of l) in
       let at_is : at ≡ l1_at T i = begins.l1_is layer l host start b in
-      let seen = read start.size start.stable (begins.seen_settled host layer.target.place start d b.settled there) in
+      let seen = read start.size start.stable (seen_whole host layer.target.place start d b.settled there) in
       let word = word_of_sector start.size start.stable (l1_at T i) at sector (begins.l1_even layer l host start b) at_is (seen ∙ ap (sector_in start.size start.stable) (sym (sector_back at))) in
       let found : table_in (number 8 (8 * (at % 512 / 8)) sector) at ≡ Ok (Some has.0) =
       ap (λ (x : ℕ). table_in x at) (sym word) ∙ ap (table_in ((file_of start.size start.stable).word (l1_at T i / 8))) at_is ∙ has.1 in

@@ -20,11 +20,11 @@ use Rattle.layer_laws.proofs.Heads.{parent_kept}
 use Rattle.layer_laws.proofs.Sound.{header_name}
 use Rattle.link_laws.specs.Links.{IsNewTable}
 use Rattle.layer_writing.specs.Holding.{on_medium}
-use Rattle.layer_writing.proofs.Sectors.{settled_alone}
 use Rattle.qcow_layer.specs.Looking.{IsFault}
 use Rattle.qcow_layer.specs.Seen.{ReadsSector}
 use Rattle.sd_names.specs.declared.refusal.Refusal.{Refusal}
 use Rattle.qcow_layer.specs.declared.layer.Layer.{Layer}
+use Rattle.qcow_layer.proofs.Knowing.{settled_alone}
 use Rattle.layer_linking.specs.Calls.{at_stage, to_of}
 use Rattle.layer_linking.specs.Linking.{IsAsBefore, IsDone, IsFilling, IsLeftSo, IsLinkable, KnowsLinking, KnowsStage, LeavesOthers, LinksOn}
 use Rattle.layer_linking.specs.declared.linking.Linking.{Linking}

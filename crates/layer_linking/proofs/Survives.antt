@@ -5,8 +5,7 @@ use Rattle.shared_disk.specs.Content.{Content, File}
 use Rattle.shared_disk.specs.Crash.{DownLeaves, IsAlone}
 use Rattle.shared_disk.proofs.Outcomes.{settled_file}
 use Rattle.shared_disk.proofs.Toolkit.{down_leaves_file}
-use Rattle.layer_writing.proofs.Sectors.{settled_alone, settled_seen}
-use Rattle.qcow_layer.proofs.Knowing.{others_settled}
+use Rattle.qcow_layer.proofs.Knowing.{others_settled, settled_alone, settled_seen}
 use Rattle.qcow_layer.specs.declared.layer.Layer.{Layer}
 use Rattle.layer_linking.specs.Calls.{first_stage, pieces, stage_of, table_given, table_of}
 use Rattle.layer_linking.specs.Linking.{IsLinkable, KnowsLinking, KnowsStage}

@@ -32,12 +32,13 @@ use Rattle.layer_laws.proofs.Sound.{Shape, clean_of, entry_lt, entry_width, head
 use Rattle.qcow_layer.specs.Knowing.{KnowsNumbers}
 use Rattle.qcow_layer.specs.declared.layer.Layer.{Layer}
 use Rattle.qcow_layer.proofs.Pieces.{same_file}
+use Rattle.qcow_layer.proofs.Knowing.{in_file, settled_seen}
 use Rattle.layer_writing.specs.Holding.{ComesBy, HoldSame, IsSpare, as_seen, on_medium, with_sector}
 use Rattle.layer_writing.specs.Writer.{IsLeft, KnowsWriter}
-use Rattle.layer_writing.proofs.Counts.{half_in, in_file}
+use Rattle.layer_writing.proofs.Counts.{half_in}
 use Rattle.layer_writing.proofs.Known.{anew, between_synced, settled_medium}
 use Rattle.layer_writing.proofs.Likes.{holds_itself}
-use Rattle.layer_writing.proofs.Sectors.{alone_writes, between_written, either_on_each, seen_lengths, settled_seen}
+use Rattle.layer_writing.proofs.Sectors.{alone_writes, between_written, either_on_each, seen_lengths}
 use Rattle.layer_placing.specs.Chosen.{listed}
 use Rattle.layer_placing.specs.Knows.{HasBlock, LacksBlock, StepsIn, first_place, own_count, range_of}
 use Rattle.layer_placing.specs.Stages.{block_place_of, current_of, entry_place_of, span_of}

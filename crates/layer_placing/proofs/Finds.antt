@@ -11,9 +11,9 @@ use Rattle.layer_laws.specs.Laws as laws
 use Rattle.layer_laws.proofs.Numbers.{cluster_sectors, whole_sector}
 use Rattle.qcow_layer.specs.Seen.{IsSeen}
 use Rattle.qcow_layer.specs.declared.layer.Layer.{Layer}
+use Rattle.qcow_layer.proofs.Knowing.{in_file}
 use Rattle.layer_writing.specs.Holding.{as_seen}
 use Rattle.layer_writing.specs.Writer.{KnowsWriter}
-use Rattle.layer_writing.proofs.Counts.{in_file}
 use Rattle.layer_writing.proofs.Known.{comes_itself}
 use Rattle.layer_placing.specs.Knows.{IsChoice, chosen_in, HasBlock, KnowsIn, Ready, StepsIn, count_sector, range_of}
 use Rattle.layer_placing.specs.Stages.{IsRaised, RaisesTo, current_of, entry_place_of, span_of}

@@ -10,10 +10,11 @@ use Rattle.image_model.specs.Layer.{block_place}
 use Rattle.layer_laws.specs.Laws as laws
 use Rattle.qcow_layer.specs.declared.layer.Layer.{Layer}
 use Rattle.qcow_layer.proofs.Pieces.{same_file}
+use Rattle.qcow_layer.proofs.Knowing.{settled_seen}
 use Rattle.qcow_format.specs.Bytes.{number}
 use Rattle.layer_writing.specs.Holding.{IsSpare, as_seen}
 use Rattle.layer_writing.proofs.Known.{synced_comes, synced_knows, synced_seen}
-use Rattle.layer_writing.proofs.Sectors.{alone_synced, settled_seen}
+use Rattle.layer_writing.proofs.Sectors.{alone_synced}
 use Rattle.std.specs.Prelude.{slice_index, ◌^◌}
 use Rattle.layer_placing.specs.Chosen.{listed}
 use Rattle.layer_placing.specs.Stages.{current_of, entry_place_of}

@@ -20,9 +20,7 @@ use Rattle.layer_writing.specs.Holding.{IsKept, IsLike, RaisesCounts, as_seen}
 use Rattle.layer_writing.proofs.Likes.{like_itself}
 use Rattle.layer_writing.proofs.Sectors.{LaysPiece, laid_outside, seen_laid, seen_lengths}
 use Rattle.layer_writing.proofs.Writes.{Facts, Keeps}
-
-pub in_file : (n k : ℕ) (s : ℕ → List ℕ) → k < n → sector_in n s k ≡ s k
-in_file n k s lt = let e : nat_lt k n ≡ true = grind (arith, nat_tests) in ap (λ b. if b then s k else replicate 512 0) e
+use Rattle.qcow_layer.proofs.Knowing.{in_file}
 
 pub half_in : (n w : ℕ) (s : ℕ → List ℕ) → w / 256 < n → (file_of n s).half w ≡ number 2 (w % 256 * 2) (s (w / 256))
 unfolding file_of

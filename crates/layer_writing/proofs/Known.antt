@@ -14,10 +14,11 @@ use Rattle.qcow_layer.specs.Knowing.{KnowsLayer, KnowsNumbers}
 use Rattle.qcow_layer.specs.Stages.{roof}
 use Rattle.layer_walk.specs.Marks.{map_size}
 use Rattle.qcow_layer.specs.declared.layer.Layer.{Layer}
+use Rattle.qcow_layer.proofs.Knowing.{settled_alone, settled_seen}
 use Rattle.layer_writing.specs.Holding.{ComesBy, HoldSame, IsBetween, IsLike, IsSpare, as_seen, on_medium}
 use Rattle.layer_writing.specs.Writer.{IsSameFile, KnowsWriter, MapTells}
 use Rattle.layer_writing.proofs.Likes.{holds_itself, holds_through, like_itself}
-use Rattle.layer_writing.proofs.Sectors.{alone_synced, settled_alone, settled_seen}
+use Rattle.layer_writing.proofs.Sectors.{alone_synced}
 use Rattle.layer_writing.proofs.Writes.{FactsOf, facts_of, knows_of}
 
 -- ---- a file with nothing unsynced

@@ -16,11 +16,10 @@ use Rattle.image_model.proofs.Longer.{longer_head}
 use Rattle.layer_laws.proofs.Grows as laws
 use Rattle.layer_walk.proofs.Numbers.{past_end}
 use Rattle.qcow_layer.specs.declared.layer.Layer.{Layer}
-use Rattle.qcow_layer.proofs.Knowing.{before, before_outcome, others_settled, outcome_raised, raised_known, seen_raised}
+use Rattle.qcow_layer.proofs.Knowing.{before, before_outcome, in_file, others_settled, outcome_raised, raised_known, seen_raised}
 use Rattle.qcow_layer.proofs.Pieces.{same_file}
 use Rattle.layer_writing.specs.Holding.{IsLike, as_seen, on_medium}
 use Rattle.layer_writing.specs.Writer.{KnowsWriter, KnowsWriterOn}
-use Rattle.layer_writing.proofs.Counts.{in_file}
 use Rattle.layer_writing.proofs.Likes.{like_back, like_through}
 
 pub writer_untouched : (l : Layer) (host : ℕ) (d e : Content) → e.file l.target.place ≡ d.file l.target.place → KnowsWriterOn l host d → KnowsWriterOn l host e

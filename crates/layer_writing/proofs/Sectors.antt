@@ -10,6 +10,7 @@ use Rattle.shared_disk.proofs.Outcomes.{settled_file, write_file}
 use Rattle.shared_disk.proofs.OwnWrites.{own_either, own_outside, own_within, without_writes}
 use Rattle.shared_disk.proofs.WellFormed.{outcome_file_keeps, seen_sector}
 use Rattle.layer_writing.specs.Holding.{IsBetween, IsEither, with_sector}
+use Rattle.qcow_layer.proofs.Knowing.{settled_alone, settled_seen}
 
 -- the sectors of a piece that are laid over others, any of them
 pub record LaysPiece (at : ℕ) (bytes : List ℕ) (s s' : ℕ → List ℕ) : Type 0 where
@@ -55,15 +56,9 @@ alone_writes did host at bytes f alone = record { loose = without_writes did hos
 pub alone_synced : (host : ℕ) (f : File) → IsAlone host f → IsSettled (synced host f)
 alone_synced host f alone = record { loose = alone.loose; fresh = alone.fresh }
 
-pub settled_alone : (host : ℕ) (f : File) → IsSettled f → IsAlone host f
-settled_alone host f settled = record { loose = ap (without host) settled.loose; fresh = ap (unless_by host) settled.fresh }
-
 -- what the host saw is on the medium, and seen
 pub synced_stable : (host : ℕ) (f : File) → (synced host f).stable ≡ seen host f
 synced_stable host f = refl
-
-pub settled_seen : (host : ℕ) (f : File) → IsSettled f → seen host f ≡ f.stable
-settled_seen host f settled = λ i k. ap (λ (ls : List Loose). unwrap_or (own_of host k ls) (f.stable k)) settled.loose i
 
 -- ---- one sector
 

@@ -19,7 +19,7 @@ use Rattle.qcow_layer.specs.Fresh.{IsFresh}
 use Rattle.qcow_layer.specs.Knowing.{KnowsLayerOn, KnowsNumbers}
 use Rattle.qcow_layer.specs.Stages.{roof}
 use Rattle.qcow_layer.specs.declared.layer.Layer.{Layer}
-use Rattle.qcow_layer.proofs.Knowing.{alone_settled, as_seen}
+use Rattle.qcow_layer.proofs.Knowing.{settled_alone, settled_seen}
 
 module _ (l : Layer) (id : Id) (at : Place) (capacity greatest : ℕ) (backing : Option Backing) (bytes host : ℕ) (d : Content) (f : File)
     (fresh : IsFresh l id at capacity greatest backing bytes) (fits : IsCapacity capacity) (long : IsLength bytes) (there : d.file at ≡ Some f) (made : IsNewLayer capacity backing bytes f) where
@@ -50,14 +50,14 @@ module _ (l : Layer) (id : Id) (at : Place) (capacity greatest : ℕ) (backing :
   }
 
   seen_is : seen host f ≡ sectors
-  seen_is = as_seen host f made.settled ∙ stable_is
+  seen_is = settled_seen host f made.settled ∙ stable_is
 
   pub fresh_known : KnowsLayerOn l host d
   fresh_known = record {
     file = f;
     there = ap d.file fresh.place ∙ there;
     knows = record {
-      alone = alone_settled host f made.settled;
+      alone = settled_alone host f made.settled;
       made = made.settled.fresh;
       numbers = subst (λ (s : ℕ → List ℕ). KnowsNumbers l (file_of f.size s)) (sym seen_is) numbers;
       each = λ g out.

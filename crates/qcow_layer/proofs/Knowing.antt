@@ -26,7 +26,7 @@ use Rattle.layer_walk.proofs.Numbers.{past_end}
 use Rattle.qcow_layer.proofs.Pieces.{same_file}
 use Rattle.qcow_layer.proofs.Steps.{size_of}
 
-in_file : (count k : ℕ) (sectors : ℕ → List ℕ) → k < count → sector_in count sectors k ≡ sectors k
+pub in_file : (count k : ℕ) (sectors : ℕ → List ℕ) → k < count → sector_in count sectors k ≡ sectors k
 in_file count k sectors lt = let e : nat_lt k count ≡ true = grind (arith, nat_tests) in rw e refl
 
 -- the same numbers in a file that is as long, or longer
@@ -43,8 +43,8 @@ numbers_on layer n m s r le same knows = record {
 seen_settled : (host k : ℕ) (f : File) → IsSettled f → seen host f k ≡ f.stable k
 seen_settled host k f settled = ap (λ (ls : List Loose). unwrap_or (own_of host k ls) (f.stable k)) settled.loose
 
-pub alone_settled : (host : ℕ) (f : File) → IsSettled f → IsAlone host f
-alone_settled host f settled = record { loose = ap (without host) settled.loose; fresh = ap (unless_by host) settled.fresh }
+pub settled_alone : (host : ℕ) (f : File) → IsSettled f → IsAlone host f
+settled_alone host f settled = record { loose = ap (without host) settled.loose; fresh = ap (unless_by host) settled.fresh }
 
 -- what the host sees of a file, by the sectors that it has, is what it saw when its length was asked
 seen_still : (host count : ℕ) (place : Place) (sectors : ℕ → List ℕ) (d : Content) (s : IsSeen host place count sectors d) (k : ℕ) → sector_in s.file.size (seen host s.file) k ≡ sector_in count sectors k
@@ -54,8 +54,18 @@ seen_still host count place sectors d s k = go (cases_lt k s.file.size)
     go (inl lt) = in_file s.file.size k (seen host s.file) lt ∙ s.same k lt
     go (inr le) = past_end s.file.size k (seen host s.file) le ∙ sym (past_end count k sectors (omega (arith, s.long, le)))
 
-pub as_seen : (host : ℕ) (f : File) → IsSettled f → seen host f ≡ f.stable
-as_seen host f settled = λ i k. seen_settled host k f settled i
+pub settled_seen : (host : ℕ) (f : File) → IsSettled f → seen host f ≡ f.stable
+settled_seen host f settled = λ i k. seen_settled host k f settled i
+
+-- a file with nothing unsynced is seen as it is
+pub seen_whole : (host : ℕ) (place : Place) (f : File) (d : Content) → IsSettled f → d.file place ≡ Some f → IsSeen host place f.size f.stable d
+seen_whole host place f d settled there = record {
+  file = f;
+  there = there;
+  long = omega arith;
+  alone = (settled_alone host f settled).loose;
+  same = λ k lt. ap (λ (s : ℕ → List ℕ). s k) (settled_seen host f settled) ∙ sym (in_file f.size k f.stable lt);
+}
 
 pub opened_known : (layer : Layer) (host count : ℕ) (sectors : ℕ → List ℕ) (d : Content) → (s : IsSeen host layer.target.place count sectors d) → IsSettled s.file → 512 * s.file.size < 2 ^ 64
     → IsOpened layer.target (file_of count sectors) layer.work → KnowsLayerOn layer host d
@@ -66,12 +76,12 @@ opened_known layer host count sectors d s settled fits opened =
       file = s.file;
       there = s.there;
       knows = record {
-        alone = alone_settled host s.file settled;
+        alone = settled_alone host s.file settled;
         made = settled.fresh;
         numbers = numbers;
         each = λ g out.
             subst (λ (o : File). IsSound (file_of o.size o.stable) layer.target.capacity) (sym (settled_file s.file g settled out))
-            (subst (λ r. IsSound (file_of s.file.size r) layer.target.capacity) (as_seen host s.file settled) numbers.sound);
+            (subst (λ r. IsSound (file_of s.file.size r) layer.target.capacity) (settled_seen host s.file settled) numbers.sound);
         long = omega (arith, opened.is_work.marks.size, size_of count sectors, s.long);
         fits = fits;
         map = opened.is_work.room ∙ ap (λ n. map_size (max n (roof layer.target.greatest)) (2 ^ layer.work.header.cluster_bits)) (sym opened.is_work.marks.size);
