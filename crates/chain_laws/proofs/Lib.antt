@@ -1,0 +1,4 @@
+pub mod Held
+pub mod Mixed
+pub mod Goes
+pub mod Outcomes
