@@ -1,0 +1,4 @@
+pub mod Sizes
+pub mod Bytes
+pub mod Data
+pub mod Changes
