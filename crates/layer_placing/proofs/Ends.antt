@@ -12,11 +12,12 @@ use Rattle.shared_disk.specs.declared.disk.DiskAnswer.TheVariants.{NoFile, Exist
 use Rattle.qcow_layer.specs.Seen.{IsReadRefusal}
 use Rattle.qcow_layer.specs.declared.layer.Layer.{Layer}
 use Rattle.qcow_layer.proofs.Pieces.{same_file}
-use Rattle.layer_writing.specs.Holding.{ComesBy, HoldSame}
+use Rattle.layer_laws.specs.Laws as laws
+use Rattle.layer_writing.specs.Holding.{ComesBy, HoldSame, IsSpare, as_seen}
 use Rattle.layer_writing.specs.Writer.{IsLeft, KnowsWriter}
-use Rattle.layer_writing.proofs.Known.{comes_itself}
+use Rattle.layer_writing.proofs.Known.{comes_itself, unnamed_on_each}
 use Rattle.layer_writing.proofs.Writes.{facts_left, facts_of}
-use Rattle.layer_placing.specs.Knows.{StepsIn}
+use Rattle.layer_placing.specs.Knows.{StaySpare, StepsIn}
 use Rattle.layer_placing.specs.declared.stage.Stage.{Stage}
 
 pub same_put : (d e : Content) (p : Place) (f : File) → IsSame d e → d.file p ≡ Some f → IsPut d p (Some f) e
@@ -24,6 +25,12 @@ same_put d e p f same there = subst (λ (x : Content). IsPut d p (Some f) x) (sy
 
 pub writer_left : (l : Layer) (host : ℕ) (f : File) → KnowsWriter l host f → IsLeft l host f
 writer_left l host f knows = facts_left l host f (facts_of l host f knows)
+
+-- spare places that stay so are named by nothing on any outcome of a file that the writer knows
+pub stay_known : (l m : Layer) (host : ℕ) (f now : File) → KnowsWriter m host now
+    → ((place : ℕ) → IsSpare (laws.layer l.work.header (as_seen host f)) l.target.capacity place → IsSpare (laws.layer m.work.header (as_seen host now)) m.target.capacity place)
+    → StaySpare l m host f now
+stay_known l m host f now knows spare = record { spare = spare; unnamed = λ place is. unnamed_on_each m host place now knows (spare place is).unnamed }
 
 no_file : (f : File) (o : Option File) → o ≡ Some f → o ≡ None → ⊥
 no_file f o e e' = cc
@@ -36,6 +43,7 @@ module _ (l : Layer) (host faults : ℕ) (stage : Stage) (f : File) (d e : Conte
     put = same_put d e l.target.place f same there;
     comes = comes_itself l.work.header l.target.capacity f;
     after = inl (is, left);
+    spare = tt;
   }
 
   pub failed_read : (r : Refusal) → IsSame d e → IsReadRefusal l.target.place faults r d → IsLeft l host f → StepsIn l l host faults stage (Ended tt r) f d e
@@ -60,6 +68,7 @@ module _ (l : Layer) (host faults : ℕ) (stage : Stage) (f : File) (d e : Conte
         put = subst (λ (x : File). IsPut d l.target.place (Some (wrote w.3 host at bytes x)) e) is w.4;
         comes = comes w.3;
         after = inl (refl, each w.3);
+        spare = tt;
       }
   failed_write NoFile at bytes call fits left each comes = absurd (no_file f (d.file l.target.place) there call.1)
   failed_write OutOfFile at bytes call fits left each comes =

@@ -40,13 +40,13 @@ use Rattle.layer_writing.proofs.Known.{anew, between_synced, settled_medium}
 use Rattle.layer_writing.proofs.Likes.{holds_itself}
 use Rattle.layer_writing.proofs.Sectors.{alone_writes, between_written, either_on_each, seen_lengths}
 use Rattle.layer_placing.specs.Chosen.{listed}
-use Rattle.layer_placing.specs.Knows.{HasBlock, LacksBlock, StepsIn, first_place, own_count, range_of}
+use Rattle.layer_placing.specs.Knows.{HasBlock, LacksBlock, StaySpare, StepsIn, first_place, own_count, range_of}
 use Rattle.layer_placing.specs.Stages.{block_place_of, current_of, entry_place_of, span_of}
 use Rattle.layer_placing.specs.declared.stage.Stage.TheVariants.{Entered, Settled}
 use Rattle.layer_placing.specs.declared.stage.Work.{Work}
 use Rattle.layer_placing.proofs.Ends.{failed_write, writer_left}
 use Rattle.layer_placing.proofs.Finds.{entry_at_is, entry_sector}
-use Rattle.layer_placing.proofs.Raises.{one_long, one_piece}
+use Rattle.layer_placing.proofs.Rows.{one_long, one_piece}
 use Rattle.layer_placing.proofs.Zeros.{first_begins, first_cluster, first_inside, first_range, first_unnamed, no_count}
 
 word_raw : (h : Header) (n k : ℕ) (s : ℕ → List ℕ) → k < h.refcount_table_clusters * (2 ^ h.cluster_bits / 8)
@@ -322,29 +322,27 @@ module _ (l : Layer) (host : ℕ) (w : Work) (table bytes : List ℕ) (f : File)
   holds : HoldSame h cap F G
   holds = record { header = placed.header ∙ sym header_is; parent = parent_same; entries = placed.entries; bytes = placed.bytes }
 
-  spare_still : (i : ℕ) → i < w.done → i < length (listed w.chosen) → IsSpare U cap (slice_index (listed w.chosen) i * c)
-  spare_still i lt within = record {
+  -- a place that is spare has a count, so it isn't in the range, and not the new block's
+  spare_still : (place : ℕ) → IsSpare T cap place → IsSpare U cap place
+  spare_still place spare = record {
     begins = spare.begins;
-    inside = subst (λ z. slice_index (listed w.chosen) i * c + c ≤ z) size_same spare.inside;
-    counted = subst (λ z. 0 < z) (sym (kept (slice_index (listed w.chosen) i * c / c) elsewhere)) spare.counted;
+    inside = subst (λ z. place + c ≤ z) size_same spare.inside;
+    counted = subst (λ z. 0 < z) (sym (kept (place / c) elsewhere)) spare.counted;
     unnamed = λ m name. go m name (same_or_not m (block_position T k));
   }
     where
-      spare : IsSpare T cap (slice_index (listed w.chosen) i * c)
-      spare = lacks.ready.serves.spare i lt within
-
       size_same : F.size ≡ G.size
       size_same = sizes n s s'
 
-      elsewhere : slice_index (listed w.chosen) i * c / c / span ≢ k
-      elsewhere e = let none = no_count l host f w table N lacks (slice_index (listed w.chosen) i * c / c) e in let some = spare.counted in omega (arith, none, some)
+      elsewhere : place / c / span ≢ k
+      elsewhere e = let none = no_count l host f w table N lacks (place / c) e in let some = spare.counted in omega (arith, none, some)
 
       same_some : (a d : ℕ) (o : Option ℕ) → o ≡ Some a → o ≡ Some d → a ≡ d
       same_some a d o e e' = cc
 
-      go : (m : ℕ) → names U cap m ≡ Some (slice_index (listed w.chosen) i * c) → (m ≡ block_position T k) ⊎ (m ≢ block_position T k) → ⊥
+      go : (m : ℕ) → names U cap m ≡ Some place → (m ≡ block_position T k) ⊎ (m ≢ block_position T k) → ⊥
       go m name (inl at) =
-          let same : b ≡ slice_index (listed w.chosen) i * c = same_some b (slice_index (listed w.chosen) i * c) (names U cap m) (ap (names U cap) at ∙ placed.named) name in
+          let same : b ≡ place = same_some b place (names U cap m) (ap (names U cap) at ∙ placed.named) name in
           elsewhere (sym (ap (λ x. x / c / span) same) ∙ first_range l host f w table N lacks)
       go m name (inr ne) = spare.unnamed m (sym (placed.names_kept m ne) ∙ name)
 
@@ -375,7 +373,7 @@ module _ (l : Layer) (host : ℕ) (w : Work) (table bytes : List ℕ) (f : File)
             low = lacks.ready.serves.low;
             counted = lacks.ready.serves.counted;
             rising = lacks.ready.serves.rising;
-            spare = λ i lt within. subst (λ (x : image.File). IsSpare (laws.layer l.work.header x) cap (slice_index (listed w.chosen) i * c)) (sym sees) (spare_still i lt within);
+            spare = λ i lt within. subst (λ (x : image.File). IsSpare (laws.layer l.work.header x) cap (slice_index (listed w.chosen) i * c)) (sym sees) (spare_still (slice_index (listed w.chosen) i * c) (lacks.ready.serves.spare i lt within));
             taken = lacks.ready.serves.taken;
             left = lacks.ready.serves.left;
           };
@@ -409,6 +407,20 @@ module _ (l : Layer) (host : ℕ) (w : Work) (table bytes : List ℕ) (f : File)
     pub enters_left : IsLeft l host (wrote did host A bytes f)
     enters_left = record { alone = alone_writes did host A bytes f knows.knows.alone; made = settled.fresh; sound = enters_sound }
 
+  -- spare places, once the entry is written
+  stays : StaySpare l l host f f'
+  stays = record {
+    spare = λ place is. subst (λ (x : image.File). IsSpare (laws.layer l.work.header x) cap place) (sym sees_now) (spare_still place is);
+    unnamed = λ place is g out. on_either place is g (either (λ _. true) g out);
+  }
+    where
+      sees_now : as_seen host f' ≡ G
+      sees_now = ap (file_of n) ((between_written host A bytes f settled one).sees ∙ new_is)
+
+      on_either : (place : ℕ) → IsSpare T cap place → (g : File) → (on_medium g ≡ F) ⊎ (on_medium g ≡ G) → laws.IsUnnamed (laws.layer l.work.header (on_medium g)) cap place
+      on_either place is g (inl e) = subst (λ (x : image.File). laws.IsUnnamed (laws.layer l.work.header x) cap place) (sym e) is.unnamed
+      on_either place is g (inr e) = subst (λ (x : image.File). laws.IsUnnamed (laws.layer l.work.header x) cap place) (sym e) (spare_still place is).unnamed
+
   pub enters_on : (faults : ℕ) (d e : Content) → d.file l.target.place ≡ Some f → WriteAt d host l.target.place A bytes (Ok tt) e → StepsIn l l host faults (Settled w table) (More (Entered w b)) f d e
   enters_on faults d e there call =
       let same : call.0 ≡ f = same_file d l.target.place f call.0 there call.1 in
@@ -425,6 +437,7 @@ module _ (l : Layer) (host : ℕ) (w : Work) (table bytes : List ℕ) (f : File)
           },
           tt,
         );
+        spare = stays;
       }
 
   pub enter_fails : (faults : ℕ) (a : DiskAnswer) (d e : Content) → d.file l.target.place ≡ Some f → WriteAt d host l.target.place A bytes (Err a) e → StepsIn l l host faults (Settled w table) (Ended tt (refusal_of a faults)) f d e

@@ -21,7 +21,7 @@ use Rattle.layer_placing.specs.declared.stage.Stage.{Stage}
 use Rattle.layer_placing.specs.declared.stage.Stage.TheVariants.{Counting, Finding, Raising, Zeroing}
 use Rattle.layer_placing.specs.declared.stage.Work.{Work}
 use Rattle.layer_placing.specs.declared.stage.Raise.{Raise}
-use Rattle.layer_placing.proofs.Ends.{same_put}
+use Rattle.layer_placing.proofs.Ends.{same_put, stay_known}
 use Rattle.layer_placing.proofs.Widths.{wide}
 use Rattle.layer_placing.proofs.Tables.{block_inside, block_whole, entry_inside, word_read}
 
@@ -36,12 +36,14 @@ seen_file l host f d there knows = record {
 }
 
 -- a step that read, and goes on
-pub reads_on : (l : Layer) (host faults : ℕ) (stage next : Stage) (f : File) (d e : Content) → d.file l.target.place ≡ Some f → IsSame d e → KnowsIn l host f next → IsChoice l host f stage (chosen_in next) → StepsIn l l host faults stage (More next) f d e
-reads_on l host faults stage next f d e there same knows choice = record {
+pub reads_on : (l : Layer) (host faults : ℕ) (stage next : Stage) (f : File) (d e : Content) → d.file l.target.place ≡ Some f → IsSame d e → KnowsWriter l host f → KnowsIn l host f next → IsChoice l host f stage (chosen_in next)
+    → StepsIn l l host faults stage (More next) f d e
+reads_on l host faults stage next f d e there same writer knows choice = record {
   now = f;
   put = same_put d e l.target.place f same there;
   comes = comes_itself l.work.header l.target.capacity f;
   after = (knows, choice);
+  spare = stay_known l l host f f writer (λ place is. is);
 }
 
 module _ (l : Layer) (host : ℕ) (f : File) (w : Work) (ready : Ready l host f w) where
@@ -81,7 +83,7 @@ module _ (l : Layer) (host : ℕ) (f : File) (w : Work) (ready : Ready l host f 
         ∙ ap (λ x. number 8 (8 * (entry_place_of l (current_of w) % 512 / 8)) x / 512 * 512) table_is ∙ sym (ap (λ x. x / 512 * 512) entry_word)
 
     pub lacks : (word : ℕ) → word ≡ number 8 (8 * (at % 512 / 8)) table → word / 512 * 512 ≡ 0 → StepsIn l l host faults (Finding w) (More (Zeroing w table 0)) f d e
-    lacks word value zero = reads_on l host faults (Finding w) (Zeroing w table 0) f d e there same (
+    lacks word value zero = reads_on l host faults (Finding w) (Zeroing w table 0) f d e there same ready.writer (
       record {
         ready = ready;
         none = sym block_is ∙ sym (ap (λ x. x / 512 * 512) value) ∙ zero;
@@ -95,7 +97,7 @@ module _ (l : Layer) (host : ℕ) (f : File) (w : Work) (ready : Ready l host f 
         some_width c le = omega (arith, le)
 
     pub has : (word : ℕ) → word ≡ number 8 (8 * (at % 512 / 8)) table → word / 512 * 512 ≢ 0 → StepsIn l l host faults (Finding w) (More (Counting w (word / 512 * 512))) f d e
-    has word value some = reads_on l host faults (Finding w) (Counting w (word / 512 * 512)) f d e there same (record {
+    has word value some = reads_on l host faults (Finding w) (Counting w (word / 512 * 512)) f d e there same ready.writer (record {
       ready = ready;
       place = sym block_is ∙ sym (ap (λ x. x / 512 * 512) value);
       there = some;
@@ -153,7 +155,7 @@ counts_known l host faults f r block d e sector has there same at read raised =
     let place : r.at ≡ 512 * count_sector l r.work block = at ∙ count_at l host f r.work block has in
     let inside : r.at / 512 < f.size = omega (arith, place, count_inside l host f r.work block has) in
     let is : sector ≡ seen host f (r.at / 512) = read f.size (seen host f) (seen_file l host f d there has.ready.writer) ∙ in_file f.size (r.at / 512) (seen host f) inside in
-    reads_on l host faults (Counting r.work block) (Raising r) f d e there same (record {
+    reads_on l host faults (Counting r.work block) (Raising r) f d e there same has.ready.writer (record {
       block = block;
       has = has;
       at = place;

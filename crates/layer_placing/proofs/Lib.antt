@@ -4,6 +4,7 @@ pub mod Entries
 pub mod Finds
 pub mod Least
 pub mod Raises
+pub mod Rows
 pub mod Starts
 pub mod Syncs
 pub mod Tables

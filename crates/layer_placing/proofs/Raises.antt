@@ -1,17 +1,14 @@
 -- Writing a sector of counts.
-use Rattle.std.proofs.Common.{◌≡◌, ◌≢◌, ◌⊎◌, inl, inr, ℕ, zero, suc, ◌+◌, ◌-◌, ◌*◌, ◌/◌, ◌%◌, ◌^◌, ◌<◌, ◌≤◌, Bool, true, false, not, List, length, take, Some, Ok, Err, refl, sym, ap, ◌∙◌, subst, arith}
-use Rattle.std.specs.Prelude.{slice_index, ◌==◌, ◌&&◌, ◌||◌, if◌then◌else◌}
-use Rattle.std.proofs.lemmas.Bool.Decides.{nat_tests}
+use Rattle.std.proofs.Common.{◌≡◌, ◌≢◌, ◌⊎◌, inl, inr, ℕ, ◌+◌, ◌-◌, ◌*◌, ◌/◌, ◌%◌, ◌^◌, ◌<◌, ◌≤◌, Bool, true, false, not, List, length, Some, Ok, Err, refl, sym, ap, ◌∙◌, subst, arith}
+use Rattle.std.specs.Prelude.{slice_index, ◌==◌, if◌then◌else◌}
 use Rattle.qcow_format.specs.declared.header.Header.{Header}
-use Rattle.image_model.specs.File as image
 use Rattle.layer_writing.proofs.Counts.{count_half, half_in}
 use Rattle.layer_writing.proofs.Sectors.{seen_one}
 use Rattle.layer_placing.proofs.Widths.{wide}
-use Rattle.std.proofs.Common.{eq-eqb, ne_eqb, nat_lt}
+use Rattle.std.proofs.Common.{eq-eqb, ne_eqb}
 use Rattle.std.proofs.lemmas.Bool.{cases_lt}
-use Rattle.std.proofs.Math.Nat.{mod-lt, div-add-mod, mul_comm, mul-div_cancel, mul-mod_left}
-use Rattle.std.proofs.lemmas.Nat.{div-mul-add, pow_pos}
-use Rattle.std.proofs.lemmas.List.{take_all}
+use Rattle.std.proofs.Math.Nat.{mod-lt, mul-div_cancel, mul-mod_left}
+use Rattle.std.proofs.lemmas.Nat.{pow_pos}
 use Rattle.sd_names.specs.declared.turn.Turn.{Turn}
 use Rattle.sd_names.specs.declared.turn.Turn.TheVariants.{More, Done, Ended}
 use Rattle.shared_disk.specs.Calls.{IsPut, WriteAt, sectors_in, wrote}
@@ -19,7 +16,7 @@ use Rattle.shared_disk.specs.Content.{Content, File, sector_of, seen}
 use Rattle.shared_disk.specs.WellFormed.{IsWellFormedFile}
 use Rattle.qcow_format.specs.Bytes.{number}
 use Rattle.image_model.specs.File.{file_of}
-use Rattle.image_model.specs.Layer.{Tables, block_place, block_span, count_of, is_used}
+use Rattle.image_model.specs.Layer.{Tables, block_place, count_of, is_used}
 use Rattle.layer_laws.specs.Laws.{BlockRecounted, count_index}
 use Rattle.layer_laws.specs.Laws as laws
 use Rattle.layer_laws.proofs.Positions.{same_or_not}
@@ -29,12 +26,12 @@ use Rattle.layer_writing.specs.Holding.{IsInCluster, IsSpare, RaisesCounts, as_s
 use Rattle.layer_writing.specs.Writer.{KnowsWriter, MapTells}
 use Rattle.layer_writing.proofs.OfLayers.{counts_comes, counts_know, counts_left, counts_same}
 use Rattle.layer_placing.specs.Chosen.{listed}
-use Rattle.layer_placing.specs.Knows.{ArePlaced, EndsBy, HasBlock, HasCounts, IsChoice, KnowsIn, Serves, ServesAs, StepsIn, chosen_in, count_sector, range_of}
+use Rattle.layer_placing.specs.Knows.{ArePlaced, EndsBy, HasBlock, HasCounts, IsChoice, KeepsSpare, KnowsIn, Serves, ServesAs, StaySpare, StepsIn, chosen_in, count_sector, range_of}
 use Rattle.layer_placing.specs.Stages.{IsAfterRaise, TakesUpTo, current_of, span_of}
 use Rattle.layer_placing.specs.declared.clusters.Clusters.{Clusters}
 use Rattle.layer_placing.specs.declared.stage.Stage.{Stage}
 use Rattle.layer_placing.specs.declared.stage.Stage.TheVariants.{Raising}
-use Rattle.layer_placing.proofs.Ends.{failed_write, writer_left}
+use Rattle.layer_placing.proofs.Ends.{failed_write, stay_known, writer_left}
 use Rattle.sd_names.specs.Turn.{MatchTurn}
 use Rattle.shared_disk.specs.Refusal.{refusal_of}
 use Rattle.shared_disk.specs.declared.disk.DiskAnswer.{DiskAnswer}
@@ -45,108 +42,7 @@ use Rattle.layer_writing.proofs.Known.{unnamed_on_each}
 use Rattle.layer_placing.specs.declared.stage.Work.{Work}
 use Rattle.layer_placing.specs.declared.stage.Raise.{Raise}
 use Rattle.layer_placing.proofs.Finds.{count_inside, column_low, fits_block, sector_block, whole_block, width_is}
-
--- one of the chosen clusters from `from` up to `n` has its count at index m of its sector, or none has
-pub among : (xs : List ℕ) (m from n : ℕ) → ((i : ℕ) × (from ≤ i) × (i < n) × (slice_index xs i % 256 ≡ m)) ⊎ ((i : ℕ) → from ≤ i → i < n → slice_index xs i % 256 ≢ m)
-among xs m from zero = inr (λ i low lt. absurd (omega (arith, lt)))
-among xs m from (suc n) = go (among xs m from n) (same_or_not (slice_index xs n % 256) m) (cases_lt n from)
-  where
-    go : ((i : ℕ) × (from ≤ i) × (i < n) × (slice_index xs i % 256 ≡ m)) ⊎ ((i : ℕ) → from ≤ i → i < n → slice_index xs i % 256 ≢ m)
-        → (slice_index xs n % 256 ≡ m) ⊎ (slice_index xs n % 256 ≢ m) → (n < from) ⊎ (from ≤ n)
-        → ((i : ℕ) × (from ≤ i) × (i < suc n) × (slice_index xs i % 256 ≡ m)) ⊎ ((i : ℕ) → from ≤ i → i < suc n → slice_index xs i % 256 ≢ m)
-    go (inl w) here side = inl (w.0, w.1, omega (arith, w.2), w.3)
-    go (inr none) (inl e) (inr le) = inl (n, le, omega arith, e)
-    go (inr none) (inl e) (inl lt) = inr (λ i low high. absurd (omega (arith, low, high, lt)))
-    go (inr none) (inr ne) side = inr (λ i low high. by i low high (same_or_not i n))
-      where
-        by : (i : ℕ) → from ≤ i → i < suc n → (i ≡ n) ⊎ (i ≢ n) → slice_index xs i % 256 ≢ m
-        by i low high (inl e) f = ne (sym (ap (λ k. slice_index xs k % 256) e) ∙ f)
-        by i low high (inr other) f = none i low (omega (arith, high, other)) f
-
--- the same with the clusters themselves
-pub among_clusters : (xs : List ℕ) (x from n : ℕ) → ((i : ℕ) × (from ≤ i) × (i < n) × (slice_index xs i ≡ x)) ⊎ ((i : ℕ) → from ≤ i → i < n → slice_index xs i ≢ x)
-among_clusters xs x from zero = inr (λ i low lt. absurd (omega (arith, lt)))
-among_clusters xs x from (suc n) = go (among_clusters xs x from n) (same_or_not (slice_index xs n) x) (cases_lt n from)
-  where
-    go : ((i : ℕ) × (from ≤ i) × (i < n) × (slice_index xs i ≡ x)) ⊎ ((i : ℕ) → from ≤ i → i < n → slice_index xs i ≢ x)
-        → (slice_index xs n ≡ x) ⊎ (slice_index xs n ≢ x) → (n < from) ⊎ (from ≤ n)
-        → ((i : ℕ) × (from ≤ i) × (i < suc n) × (slice_index xs i ≡ x)) ⊎ ((i : ℕ) → from ≤ i → i < suc n → slice_index xs i ≢ x)
-    go (inl w) here side = inl (w.0, w.1, omega (arith, w.2), w.3)
-    go (inr none) (inl e) (inr le) = inl (n, le, omega arith, e)
-    go (inr none) (inl e) (inl lt) = inr (λ i low high. absurd (omega (arith, low, high, lt)))
-    go (inr none) (inr ne) side = inr (λ i low high. by i low high (same_or_not i n))
-      where
-        by : (i : ℕ) → from ≤ i → i < suc n → (i ≡ n) ⊎ (i ≢ n) → slice_index xs i ≢ x
-        by i low high (inl e) f = ne (sym (ap (λ k. slice_index xs k) e) ∙ f)
-        by i low high (inr other) f = none i low (omega (arith, high, other)) f
-
--- ---- numbers of clusters in a range of whole sectors of counts
-
-row_of_cluster : (x span r : ℕ) → span ≡ 256 * r → x / 256 ≡ x / span * r + x % span / 256
-row_of_cluster x span r is = go (x / span) (x % span) split
-  where
-    split : x ≡ x / span * (256 * r) + x % span
-    split = let f = div-add-mod x span in let g = mul_comm (x / span) span in let e : x / span * span ≡ x / span * (256 * r) = ap (λ n. x / span * n) is in omega (arith, f, g, e)
-
-    go : (k j : ℕ) → x ≡ k * (256 * r) + j → x / 256 ≡ k * r + j / 256
-    go k j e = let turned : k * (256 * r) ≡ 256 * (k * r) = omega arith in omega (arith, e, turned)
-
-column_of_cluster : (x span r : ℕ) → span ≡ 256 * r → x % 256 ≡ x % span % 256
-column_of_cluster x span r is = go (x / span) (x % span) split
-  where
-    split : x ≡ x / span * (256 * r) + x % span
-    split = let f = div-add-mod x span in let g = mul_comm (x / span) span in let e : x / span * span ≡ x / span * (256 * r) = ap (λ n. x / span * n) is in omega (arith, f, g, e)
-
-    go : (k j : ℕ) → x ≡ k * (256 * r) + j → x % 256 ≡ j % 256
-    go k j e = let turned : k * (256 * r) ≡ 256 * (k * r) = omega arith in omega (arith, e, turned)
-
--- clusters whose counts stand in one sector are of one range
-range_same : (x y span r : ℕ) → span ≡ 256 * r → 0 < r → x / 256 ≡ y / 256 → x / span ≡ y / span
-range_same x y span r is pos e =
-    sym (by_rows x) ∙ ap (λ n. n / r) e ∙ by_rows y
-  where
-    low : (x : ℕ) → x % span / 256 < r
-    low x = let some : 0 < span = omega (arith, is, pos) in let lt = mod-lt x some in omega (arith, lt, is)
-
-    by_rows : (x : ℕ) → x / 256 / r ≡ x / span
-    by_rows x = ap (λ n. n / r) (row_of_cluster x span r is) ∙ div-mul-add (x / span) r (x % span / 256) (low x)
-
-same_cluster : (x y : ℕ) → x / 256 ≡ y / 256 → x % 256 ≡ y % 256 → x ≡ y
-same_cluster x y e f = omega (arith, e, f)
-
-take_whole : (n : ℕ) (xs : List ℕ) → length xs ≡ n → take n xs ≡ xs
-take_whole n xs e = take_all n xs (omega (arith, e))
-
-pub one_piece : (bytes : List ℕ) → length bytes ≡ 512 → sector_of bytes 0 ≡ bytes
-one_piece bytes e = take_whole 512 bytes e
-
-pub one_long : (bytes : List ℕ) → length bytes ≡ 512 → sectors_in bytes ≡ 1
-one_long bytes e = ap (λ n. n / 512) e
-
-positive : (n : ℕ) → 0 < n → nat_lt 0 n ≡ true
-positive n lt = grind (arith, nat_tests)
-
--- a cluster with a count is used, and one that isn't used has none
-used_counted : (t : Tables) (x : ℕ) → 0 < count_of t x → is_used t x ≡ true
-unfolding is_used
-used_counted t x some = ap (λ (b : Bool). b || (x % block_span t == 0 && block_place t (x / block_span t) == 0)) (positive (count_of t x) some)
-
-unused_uncounted : (t : Tables) (x : ℕ) → is_used t x ≡ false → count_of t x ≡ 0
-unused_uncounted t x e = go (cases_lt 0 (count_of t x))
-  where
-    go : (0 < count_of t x) ⊎ (count_of t x ≤ 0) → count_of t x ≡ 0
-    go (inl some) = absurd (true_false (sym (used_counted t x some) ∙ e))
-      where
-        true_false : ◌≡◌ {A = Bool} true false → ⊥
-        true_false e = cc
-    go (inr none) = omega (arith, none)
-
-same_use : (h : Header) (f g : image.File) (x : ℕ) → count_of (laws.layer h g) x ≡ count_of (laws.layer h f) x → block_place (laws.layer h g) (x / block_span (laws.layer h f)) ≡ block_place (laws.layer h f) (x / block_span (laws.layer h f))
-    → is_used (laws.layer h g) x ≡ is_used (laws.layer h f) x
-unfolding is_used
-same_use h f g x count block =
-    ap (λ (n : ℕ). nat_lt 0 n || (x % block_span (laws.layer h f) == 0 && block_place (laws.layer h g) (x / block_span (laws.layer h f)) == 0)) count
-    ∙ ap (λ (n : ℕ). nat_lt 0 (count_of (laws.layer h f) x) || (x % block_span (laws.layer h f) == 0 && n == 0)) block
+use Rattle.layer_placing.proofs.Rows.{among, among_clusters, column_of_cluster, not_true, one_long, one_piece, range_same, row_of_cluster, same_cluster, same_use, unused_uncounted, used_counted}
 
 module _ (l : Layer) (host : ℕ) (r : Raise) (f : File) (formed : IsWellFormedFile f) (known : HasCounts l host f r) (long : length r.counts ≡ 512) where
   abbrev h : Header
@@ -350,6 +246,23 @@ module _ (l : Layer) (host : ℕ) (r : Raise) (f : File) (formed : IsWellFormedF
       go (inl e) = other_count x e none
       go (inr ne) = recounted.counts_kept x ne
 
+  size_kept : (as_seen host f').size ≡ (as_seen host f).size
+  unfolding file_of
+  size_kept = refl
+
+  -- no count becomes 0, and nothing is named anew
+  stays_spare : (place : ℕ) → IsSpare T l.target.capacity place → IsSpare T' l.target.capacity place
+  stays_spare place spare = record {
+    begins = spare.begins;
+    inside = subst (λ n. place + c ≤ n) (sym size_kept) spare.inside;
+    counted = go (among_clusters xs (place / c) w.done r.upto);
+    unnamed = λ n name. spare.unnamed n (sym (recounted.same.named n) ∙ name);
+  }
+    where
+      go : ((i : ℕ) × (w.done ≤ i) × (i < r.upto) × (slice_index xs i ≡ place / c)) ⊎ ((i : ℕ) → w.done ≤ i → i < r.upto → slice_index xs i ≢ place / c) → 0 < count_of T' (place / c)
+      go (inl a) = let count : count_of T' (place / c) ≡ 1 = ap (count_of T') (sym a.3) ∙ chosen_counted a.0 a.1 a.2 in omega (arith, count)
+      go (inr none) = subst (λ n. 0 < n) (sym (others_counted (place / c) none)) spare.counted
+
   -- ---- the layer then
 
   module _ (m : Layer) (takes : TakesUpTo l r.work r.upto m) where
@@ -391,10 +304,6 @@ module _ (l : Layer) (host : ℕ) (r : Raise) (f : File) (formed : IsWellFormedF
         let some = (clean_of (as_seen host f) l.target.capacity h knows.knows.numbers.header knows.knows.numbers.sound n).counted (slice_index xs i * c) name in
         let here : slice_index xs i * c / c ≡ slice_index xs i = mul-div_cancel (slice_index xs i) (pow_pos l.work.header.cluster_bits) in
         omega (arith, subst (λ x. 0 < count_of T x) here some, none)
-      where
-        not_true : (b : Bool) → not b ≡ true → b ≡ false
-        not_true true e = absurd cc
-        not_true false e = refl
 
     size_now : (as_seen host f').size ≡ 512 * f.size
     unfolding file_of
@@ -441,6 +350,16 @@ module _ (l : Layer) (host : ℕ) (r : Raise) (f : File) (formed : IsWellFormedF
         subst (λ (g : Header). ServesAs g m.target.capacity (is_free m) (mapped m) host f' xs r.upto) (sym takes.same.header)
         (subst (λ t. ServesAs l.work.header t.capacity (is_free m) (mapped m) host f' xs r.upto) (sym takes.same.target) serves_now)
 
+    stays : StaySpare l m host f f'
+    stays = stay_known l m host f f' knows_now (λ place is.
+        subst (λ (g : Header). IsSpare (laws.layer g (as_seen host f')) m.target.capacity place) (sym takes.same.header)
+        (subst (λ t. IsSpare (laws.layer l.work.header (as_seen host f')) t.capacity place) (sym takes.same.target) (stays_spare place is)))
+
+    spare_after : (turn : Turn Stage Clusters (Unit {0})) → KeepsSpare l m host turn f f'
+    spare_after (More s) = stays
+    spare_after (Done chosen) = stays
+    spare_after (Ended b refusal) = tt
+
     after : (faults : ℕ) (turn : Turn Stage Clusters (Unit {0})) → IsAfterRaise r.work r.upto turn
         → MatchTurn turn (λ s. KnowsIn m host f' s × IsChoice l host f (Raising r) (chosen_in s)) (λ chosen. ArePlaced m host f' (listed chosen)) (λ _ refusal. EndsBy l m host faults (Raising r) f f' refusal)
     after faults (More s) next = (
@@ -474,6 +393,7 @@ module _ (l : Layer) (host : ℕ) (r : Raise) (f : File) (formed : IsWellFormedF
               (subst (λ (x : File). IsPut d l.target.place (Some (wrote (λ _. true) host (r.at / 512 * 512 / 512) r.counts x)) e) is wrote_at.3);
           comes = counts_comes l l (λ _. true) host K k r.counts f formed knows there' inside fits raises;
           after = after faults turn next;
+          spare = spare_after turn;
         }
 
   pub raise_fails : (faults : ℕ) (a : DiskAnswer) (d e : Content) → d.file l.target.place ≡ Some f → WriteAt d host l.target.place (r.at / 512 * 512 / 512) r.counts (Err a) e

@@ -3,6 +3,7 @@ use Rattle.std.proofs.Common.{◌≡◌, ℕ, ◌+◌, ◌*◌, ◌/◌, List, S
 use Rattle.sd_names.specs.declared.turn.Turn.TheVariants.{Ended, More}
 use Rattle.shared_disk.specs.Calls.{IsPut, Syncs, synced}
 use Rattle.shared_disk.specs.Content.{Content, File, seen}
+use Rattle.shared_disk.specs.Crash.{IsAlone}
 use Rattle.shared_disk.specs.Refusal.{refusal_of}
 use Rattle.shared_disk.specs.declared.disk.DiskAnswer.{DiskAnswer}
 use Rattle.image_model.specs.File as image
@@ -13,6 +14,7 @@ use Rattle.qcow_layer.proofs.Pieces.{same_file}
 use Rattle.qcow_layer.proofs.Knowing.{settled_seen}
 use Rattle.qcow_format.specs.Bytes.{number}
 use Rattle.layer_writing.specs.Holding.{IsSpare, as_seen}
+use Rattle.layer_writing.specs.Writer.{KnowsWriter}
 use Rattle.layer_writing.proofs.Known.{synced_comes, synced_knows, synced_seen}
 use Rattle.layer_writing.proofs.Sectors.{alone_synced}
 use Rattle.std.specs.Prelude.{slice_index, ◌^◌}
@@ -22,18 +24,19 @@ use Rattle.layer_placing.specs.Knows.{EntersBlock, KnowsIn, IsChoice, LacksBlock
 use Rattle.layer_placing.specs.declared.stage.Stage.{Stage}
 use Rattle.layer_placing.specs.declared.stage.Stage.TheVariants.{Counting, Entered, Settled, Zeroed}
 use Rattle.layer_placing.specs.declared.stage.Work.{Work}
-use Rattle.layer_placing.proofs.Ends.{failed_sync, writer_left}
+use Rattle.layer_placing.proofs.Ends.{failed_sync, stay_known, writer_left}
 
 -- a step that synced, and goes on
 pub syncs_on : (l : Layer) (host faults : ℕ) (stage next : Stage) (f : File) (d e : Content) → d.file l.target.place ≡ Some f → Syncs d host l.target.place (Ok tt) e
-    → KnowsIn l host (synced host f) next → IsChoice l host f stage (chosen_in next) → StepsIn l l host faults stage (More next) f d e
-syncs_on l host faults stage next f d e there call knows choice =
+    → IsAlone host f → KnowsWriter l host (synced host f) → KnowsIn l host (synced host f) next → IsChoice l host f stage (chosen_in next) → StepsIn l l host faults stage (More next) f d e
+syncs_on l host faults stage next f d e there call alone writer knows choice =
     let is : call.0 ≡ f = same_file d l.target.place f call.0 there call.1 in
     record {
       now = synced host f;
       put = subst (λ (x : File). IsPut d l.target.place (Some (synced host x)) e) is call.2;
       comes = synced_comes l.work.header l.target.capacity host f;
       after = (knows, choice);
+      spare = stay_known l l host f (synced host f) writer (λ place is. subst (λ (x : image.File). IsSpare (laws.layer l.work.header x) l.target.capacity place) (sym (synced_seen host f alone)) is);
     }
 
 pub ready_synced : (l : Layer) (host : ℕ) (f : File) (w : Work) → Ready l host f w → Ready l host (synced host f) w
@@ -67,7 +70,8 @@ lacks_synced l host n f w table lacks = record {
 pub block_synced : (l : Layer) (host faults : ℕ) (w : Work) (table : List ℕ) (f : File) (d e : Content) → d.file l.target.place ≡ Some f → KnowsIn l host f (Zeroed w table) → Syncs d host l.target.place (Ok tt) e
     → StepsIn l l host faults (Zeroed w table) (More (Settled w table)) f d e
 block_synced l host faults w table f d e there lacks call =
-    syncs_on l host faults (Zeroed w table) (Settled w table) f d e there call (lacks_synced l host (width_of l / 512) f w table lacks, alone_synced host f lacks.ready.writer.knows.alone) tt
+    syncs_on l host faults (Zeroed w table) (Settled w table) f d e there call lacks.ready.writer.knows.alone (synced_knows l host f lacks.ready.writer)
+    (lacks_synced l host (width_of l / 512) f w table lacks, alone_synced host f lacks.ready.writer.knows.alone) tt
 
 pub block_sync_fails : (l : Layer) (host faults : ℕ) (w : Work) (table : List ℕ) (f : File) (d e : Content) (a : DiskAnswer) → d.file l.target.place ≡ Some f → KnowsIn l host f (Zeroed w table)
     → Syncs d host l.target.place (Err a) e → StepsIn l l host faults (Zeroed w table) (Ended tt (refusal_of a faults)) f d e
@@ -75,7 +79,7 @@ block_sync_fails l host faults w table f d e a there lacks call = failed_sync l 
 
 pub entry_synced : (l : Layer) (host faults block : ℕ) (w : Work) (f : File) (d e : Content) → d.file l.target.place ≡ Some f → EntersBlock l host f w block → Syncs d host l.target.place (Ok tt) e
     → StepsIn l l host faults (Entered w block) (More (Counting w block)) f d e
-entry_synced l host faults block w f d e there enters call = syncs_on l host faults (Entered w block) (Counting w block) f d e there call enters.after tt
+entry_synced l host faults block w f d e there enters call = syncs_on l host faults (Entered w block) (Counting w block) f d e there call enters.alone enters.after.ready.writer enters.after tt
 
 pub entry_sync_fails : (l : Layer) (host faults block : ℕ) (w : Work) (f : File) (d e : Content) (a : DiskAnswer) → d.file l.target.place ≡ Some f → EntersBlock l host f w block
     → Syncs d host l.target.place (Err a) e → StepsIn l l host faults (Entered w block) (Ended tt (refusal_of a faults)) f d e

@@ -22,7 +22,7 @@ use Rattle.layer_laws.proofs.Positions.{same_or_not}
 use Rattle.layer_laws.proofs.Sound.{clean_of}
 use Rattle.qcow_layer.specs.declared.layer.Layer.{Layer}
 use Rattle.qcow_layer.proofs.Pieces.{same_file}
-use Rattle.layer_writing.specs.Holding.{IsInCluster, as_seen}
+use Rattle.layer_writing.specs.Holding.{IsInCluster, IsSpare, as_seen}
 use Rattle.layer_writing.proofs.Known.{spare_stays}
 use Rattle.layer_writing.proofs.OfLayers.{unnamed_comes, unnamed_knows, unnamed_same}
 use Rattle.layer_placing.specs.Chosen.{listed}
@@ -31,7 +31,7 @@ use Rattle.layer_placing.specs.Stages.{block_place_of, current_of, entry_place_o
 use Rattle.layer_placing.specs.declared.stage.Stage.{Stage}
 use Rattle.layer_placing.specs.declared.stage.Stage.TheVariants.{Zeroed, Zeroing}
 use Rattle.layer_placing.specs.declared.stage.Work.{Work}
-use Rattle.layer_placing.proofs.Ends.{failed_write, writer_left}
+use Rattle.layer_placing.proofs.Ends.{failed_write, stay_known, writer_left}
 use Rattle.layer_placing.proofs.Finds.{entry_at_is}
 use Rattle.layer_placing.proofs.Tables.{entry_elsewhere}
 use Rattle.layer_laws.proofs.Numbers.{cluster_sectors, whole_sector}
@@ -203,6 +203,9 @@ module _ (l : Layer) (host : ℕ) (f : File) (w : Work) (table : List ℕ) (n : 
     content : SameContent l.work.header l.target.capacity (as_seen host f) (as_seen host f')
     content = unnamed_same l did host at b bytes f formed lacks.ready.writer inside first_unnamed
 
+    pub spare_after : (place : ℕ) → IsSpare T l.target.capacity place → IsSpare (laws.layer l.work.header (as_seen host f')) l.target.capacity place
+    spare_after place = spare_stays l.work.header l.target.capacity place (as_seen host f) (as_seen host f') content (same_size f (seen host f) (seen host f'))
+
     pub ready_after : Ready l host f' w
     ready_after = record {
       writer = unnamed_knows l did host at b bytes f formed lacks.ready.writer inside first_unnamed;
@@ -211,7 +214,7 @@ module _ (l : Layer) (host : ℕ) (f : File) (w : Work) (table : List ℕ) (n : 
         low = lacks.ready.serves.low;
         counted = lacks.ready.serves.counted;
         rising = lacks.ready.serves.rising;
-        spare = λ i low lt. spare_stays l.work.header l.target.capacity (slice_index (listed w.chosen) i * c) (as_seen host f) (as_seen host f') content (same_size f (seen host f) (seen host f')) (lacks.ready.serves.spare i low lt);
+        spare = λ i low lt. spare_after (slice_index (listed w.chosen) i * c) (lacks.ready.serves.spare i low lt);
         taken = lacks.ready.serves.taken;
         left = lacks.ready.serves.left;
       };
@@ -340,6 +343,7 @@ module _ (l : Layer) (host faults piece at size : ℕ) (w : Work) (table room : 
           put = subst (λ (x : File). IsPut d l.target.place (Some (wrote (λ _. true) host at bytes x)) e) same call.3;
           comes = unnamed_comes l (λ _. true) host at b' bytes f formed lacks.ready.writer inside (first_unnamed l host f w table (piece * u) lacks);
           after = (knows, choice);
+          spare = stay_known l l host f g (ready_after l host f w table (piece * u) lacks (λ _. true) at bytes formed inside).writer (spare_after l host f w table (piece * u) lacks (λ _. true) at bytes formed inside);
         }
 
     pub writes_more : (piece + 1) * size < c' → StepsIn l l host faults (Zeroing w table piece) (More (Zeroing w table (piece + 1))) f d e

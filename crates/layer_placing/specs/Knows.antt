@@ -154,6 +154,16 @@ RefusesRoom layer next host stage f now refusal = ⊥
 abbrev pub EndsBy : Layer → Layer → ℕ → ℕ → Stage → File → File → Refusal → Type 0
 EndsBy layer next host faults stage f now refusal = ((refusal ≡ DiskFault faults) × IsLeft next host now) ⊎ RefusesRoom layer next host stage f now refusal
 
+-- Places that were spare before a step, as those of an earlier placing that no entry names yet: they are spare as the host
+-- sees the file then, and named by nothing on each outcome of it.
+pub record StaySpare (layer next : Layer) (host : ℕ) (f now : File) : Type 0 where
+  pub spare : (place : ℕ) → IsSpare (seen_tables layer host f) (capacity_kept layer) place → IsSpare (seen_tables next host now) (capacity_kept next) place
+  pub unnamed : (place : ℕ) → IsSpare (seen_tables layer host f) (capacity_kept layer) place → OnEach now (λ g. laws.IsUnnamed (laws.layer (header_kept next) (on_medium g)) (capacity_kept next) place)
+
+-- So they stay unless the step is refused. Want of room changes nothing, and a fault may lose counts that weren't synced.
+abbrev pub KeepsSpare : {S : Type 0} → Layer → Layer → ℕ → Turn S Clusters (Unit {0}) → File → File → Type 0
+KeepsSpare layer next host turn f now = MatchTurn turn (λ _. StaySpare layer next host f now) (λ _. StaySpare layer next host f now) (λ _ _. Unit {0})
+
 -- A step changes the layer's file alone. Each outcome holds what one from before held: own bytes, entries and backing file.
 pub record StepsIn (layer next : Layer) (host faults : ℕ) (stage : Stage) (turn : Turn Stage Clusters (Unit {0})) (f : File) (d e : Content) : Type 0 where
   pub now : File
@@ -163,6 +173,7 @@ pub record StepsIn (layer next : Layer) (host faults : ℕ) (stage : Stage) (tur
       (λ s. KnowsIn next host now s × IsChoice layer host f stage (chosen_in s))
       (λ chosen. ArePlaced next host now (listed chosen))
       (λ _ refusal. EndsBy layer next host faults stage f now refusal)
+  pub spare : KeepsSpare layer next host turn f now
 
 abbrev pub Steps : Layer → Layer → ℕ → ℕ → Stage → Turn Stage Clusters (Unit {0}) → Content → Content → Type 0
 Steps layer next host faults stage turn d e = (f : File) → d.file (place_kept layer) ≡ Some f → KnowsIn layer host f stage → StepsIn layer next host faults stage turn f d e

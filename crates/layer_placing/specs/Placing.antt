@@ -8,7 +8,7 @@ use Rattle.qcow_layer.specs.Opening.{capacity_kept, header_kept, place_kept}
 use Rattle.qcow_layer.specs.declared.layer.Layer.{Layer}
 use Rattle.layer_writing.specs.Holding.{ComesBy, HoldSame}
 use Rattle.layer_placing.specs.Chosen.{listed}
-use Rattle.layer_placing.specs.Knows.{ArePlaced, EndsBy, IsChoice, KeepsList, KnowsIn, chosen_in}
+use Rattle.layer_placing.specs.Knows.{ArePlaced, EndsBy, IsChoice, KeepsList, KeepsSpare, KnowsIn, chosen_in}
 use Rattle.layer_placing.specs.Stages.{stage_left}
 use Rattle.layer_placing.specs.declared.clusters.Clusters.{Clusters}
 use Rattle.layer_placing.specs.declared.placing.Placing.{Placing}
@@ -41,7 +41,8 @@ KnowsFile placing layer host f = KnowsIn layer host f placing.stage
 
 -- A step changes the layer's file alone, and each outcome holds what one from before held: own bytes, entries and the backing
 -- file. What is known leads on; at the end the clusters are placed; a step ends early for want of room, which changes nothing,
--- or by a fault of the disk, which leaves a sound layer on each outcome.
+-- or by a fault of the disk, which leaves a sound layer on each outcome. What was spare before a step that isn't refused, as
+-- what an earlier placing gave, is spare behind it.
 pub record Places (placing : Placing) (layer next : Layer) (host faults : ℕ) (turn : Turn Placing Clusters (Unit {0})) (f : File) (d e : Content) : Type 0 where
   pub now : File
   pub put : IsPut d (place_kept layer) (Some now) e
@@ -50,6 +51,7 @@ pub record Places (placing : Placing) (layer next : Layer) (host faults : ℕ) (
       (λ s. KnowsFile s next host now × IsChoice layer host f placing.stage (chosen_by s))
       (λ chosen. ArePlaced next host now (listed chosen))
       (λ _ refusal. EndsBy layer next host faults placing.stage f now refusal)
+  pub spare : KeepsSpare layer next host turn f now
 
 abbrev pub PlacesOn : Placing → Layer → Layer → ℕ → ℕ → Turn Placing Clusters (Unit {0}) → Content → Content → Type 0
 PlacesOn placing layer next host faults turn d e = (f : File) → d.file (place_kept layer) ≡ Some f → KnowsFile placing layer host f → Places placing layer next host faults turn f d e

@@ -1,14 +1,16 @@
 // Laws of placings: contracts of functions that do nothing.
-ghost use Rattle.std.specs.Prelude.{◌≡◌, ◌≢◌, ◌⊎◌, ℕ, ◌+◌, ◌*◌, ◌≤◌, Some};
+ghost use Rattle.std.specs.Prelude.{◌≡◌, ◌≢◌, ◌⊎◌, ℕ, ◌+◌, ◌*◌, ◌^◌, ◌<◌, ◌≤◌, List, Some, length, slice_index};
 ghost use Rattle.shared_disk.specs.Content.{Content, File};
 ghost use Rattle.shared_disk.specs.Crash.{DownLeaves};
 ghost use Rattle.image_model.specs.Room.{Room, Short, end_of_room, free_below};
 ghost use Rattle.qcow_layer.specs.Knowing.{mapped};
-ghost use Rattle.qcow_layer.specs.Opening.{place_kept};
+ghost use Rattle.qcow_layer.specs.Opening.{capacity_kept, header_kept, place_kept};
 ghost use Rattle.qcow_layer.specs.declared.layer.Layer.{Layer};
-ghost use Rattle.layer_writing.specs.Writer.{KnowsWriter};
+ghost use Rattle.layer_writing.specs.Holding.{IsSpare};
+ghost use Rattle.layer_writing.specs.Writer.{KnowsWriter, seen_tables};
 ghost use Rattle.layer_placing.specs.Chosen.{IsShort, most_clusters};
-ghost use Rattle.layer_placing.specs.Placing.{IsBegun, KnowsFile, placing_left};
+ghost use Rattle.layer_placing.specs.Knows.{IsChoice};
+ghost use Rattle.layer_placing.specs.Placing.{IsBegun, KnowsFile, placing_left, stage_of};
 ghost use Rattle.layer_placing.specs.declared.placing.Placing.{Placing};
 
 /// A placing that was begun knows each file that the layer's writer knows. It takes one step, and for each cluster at most
@@ -27,4 +29,11 @@ pub fn placings_survive_others()
 /// the map has so many free clusters or all that the refcount table covers.
 pub fn short_of_room()
     ensures { (l : Layer) (r : Room) (need bytes length : ℕ) → end_of_room r ≤ mapped l → (most_clusters r ≤ mapped l) ⊎ (need ≤ free_below r (mapped l)) → IsShort l r need bytes length → Short r need bytes length }
+{}
+
+/// The clusters that a placing chooses in its first step are none of the spare places, as those which an earlier placing gave
+/// and no entry names yet.
+pub fn spare_places_are_not_chosen()
+    ensures { (p : Placing) (count host i place : ℕ) (l : Layer) (f : File) (xs : List ℕ) → IsBegun count p → KnowsWriter l host f → IsChoice l host f (stage_of p) xs → i < length xs
+        → IsSpare (seen_tables l host f) (capacity_kept l) place → slice_index xs i * 2 ^ (header_kept l).cluster_bits ≢ place }
 {}

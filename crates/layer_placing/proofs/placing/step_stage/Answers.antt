@@ -1,6 +1,22 @@
 use Rattle.layer_placing.proofs.Dispatch.{in_stage}
 use Rattle.layer_placing.proofs.placing.step_stage.Goals as goal
 
+pub returns-in-Begun-clause-content : goal.returns-in-Begun-clause-content
+returns-in-Begun-clause-content g c d tells =
+    let call = c.begin.ensures.content d tells in (
+      call.0,
+      call.1,
+      λ f there knows. in_stage c.args.layer.now c.args.layer.now c.args.host (g.D.SharedDisk.faults c.begin.new.disk) c.begin.result f d call.0 c.args.stage _ c.in-Begun.is (call.2 f there) knows,
+    )
+
+pub returns-in-Finding-clause-content : goal.returns-in-Finding-clause-content
+returns-in-Finding-clause-content g c d tells =
+    let call = c.find_block.ensures.content d tells in (
+      call.0,
+      call.1,
+      λ f there knows. in_stage c.args.layer.now c.args.layer.now c.args.host (g.D.SharedDisk.faults c.find_block.new.disk) c.find_block.result f d call.0 c.args.stage _ c.in-Finding.is (call.2 f there) knows,
+    )
+
 pub returns-in-Counting-clause-content : goal.returns-in-Counting-clause-content
 returns-in-Counting-clause-content g c d tells =
     let call = c.read_counts.ensures.content d tells in (

@@ -5,7 +5,7 @@ returns-in-More-clause-content g c d tells =
     let call = c.in-More.ensures.content d tells in (
       call.0,
       call.1,
-      λ f there knows. let x = call.2 f there knows in record { now = x.now; put = x.put; comes = x.comes; after = x.after },
+      λ f there knows. let x = call.2 f there knows in record { now = x.now; put = x.put; comes = x.comes; after = x.after; spare = x.spare },
     )
 
 pub returns-in-Done-clause-content : goal.returns-in-Done-clause-content
@@ -13,7 +13,7 @@ returns-in-Done-clause-content g c d tells =
     let call = c.in-Done.ensures.content d tells in (
       call.0,
       call.1,
-      λ f there knows. let x = call.2 f there knows in record { now = x.now; put = x.put; comes = x.comes; after = x.after },
+      λ f there knows. let x = call.2 f there knows in record { now = x.now; put = x.put; comes = x.comes; after = x.after; spare = x.spare },
     )
 
 pub returns-in-Ended-clause-content : goal.returns-in-Ended-clause-content
@@ -21,5 +21,5 @@ returns-in-Ended-clause-content g c d tells =
     let call = c.in-Ended.ensures.content d tells in (
       call.0,
       call.1,
-      λ f there knows. let x = call.2 f there knows in record { now = x.now; put = x.put; comes = x.comes; after = x.after },
+      λ f there knows. let x = call.2 f there knows in record { now = x.now; put = x.put; comes = x.comes; after = x.after; spare = x.spare },
     )
