@@ -13,7 +13,7 @@ use Rattle.qcow_format.specs.declared.header.Header.{Header}
 use Rattle.image_model.specs.File.{File, file_of}
 use Rattle.image_model.specs.Layer.{Tables, block_place, count_of, entries, l1_at, l1_clusters, l1_entry, l2_at, own_byte}
 use Rattle.image_model.specs.Soundness.{IsClean, IsSound, layer_header, names}
-use Rattle.layer_laws.specs.Laws.{AreSectors, IsUnnamed, OnlyWord, Placed, SameContent, SameOutside, entry_position, l1_position, layer}
+use Rattle.layer_laws.specs.Laws.{AreSectors, IsNamedOnlyAt, IsUnnamed, OnlyWord, Placed, SameContent, SameOutside, entry_position, l1_position, layer}
 use Rattle.layer_laws.proofs.Clusters.{Agrees, agrees, other_byte, other_word}
 use Rattle.layer_laws.proofs.Frames as frames
 use Rattle.layer_laws.proofs.Heads.{parent_kept}
@@ -296,14 +296,13 @@ module _ (n capacity group table : ℕ) (to : ℕ → Option ℕ) (s s' : ℕ �
   entered : Linked h capacity to no_table G0 G
   entered = many.linked n capacity group table to s1 s' h (are_emptied s' are') linked_empty.header linked_empty.sound whole low new links0 laid_in
 
-  byte_now : (k place o : ℕ) → o < c → to k ≡ Some place → G0.byte (place + o) ≡ F.byte (place + o)
-  byte_now k place o lt is =
-      other_byte c e p F0 G0 sectors p_whole agree_l1 place o (links.counted k place is).begins lt not_l1
-      ∙ other_byte c e table F F0 sectors counted.begins agree0 place o (links.counted k place is).begins lt (λ same. other k (is ∙ ap (λ (x : ℕ). Some x) same))
+  byte_now : (k place o : ℕ) → place % c ≡ 0 → IsNamedOnlyAt T capacity (entry_position T k) place → place ≢ table → o < c → G0.byte (place + o) ≡ F.byte (place + o)
+  byte_now k place o begins only_entry apart lt =
+      other_byte c e p F0 G0 sectors p_whole agree_l1 place o begins lt not_l1 ∙ other_byte c e table F F0 sectors counted.begins agree0 place o begins lt apart
     where
       not_l1 : place ≢ p
       not_l1 same =
-          let here = links.free k place is (1 + i / entries T) (p_named ∙ ap (λ (x : ℕ). Some x) (sym same)) in
+          let here = only_entry (1 + i / entries T) (p_named ∙ ap (λ (x : ℕ). Some x) (sym same)) in
           let early = l1_cluster_early T (i / entries T) m0_lt in
           let late = l2_late T (k / entries T) (k % entries T) in
           omega (arith, here, early, late)
@@ -322,6 +321,8 @@ module _ (n capacity group table : ℕ) (to : ℕ → Option ℕ) (s s' : ℕ �
     counts = λ x. entered.counts x ∙ counts0 x;
     names = λ m place named. names_now m place (entered.names m place named);
     bytes = λ b. entered.bytes b ∙ bytes_now b (to (b / c)) refl;
+    stands = λ k place offset begins only_entry free lt.
+        entered.stands k place offset begins (still_free k place only_entry (apart place free)) (λ among. no_such place among) lt ∙ byte_now k place offset begins only_entry (apart place free) lt;
     words = entered.words;
     l1_words = λ m table' is. word_now m table' is (same_or_not m i);
   }
@@ -332,6 +333,19 @@ module _ (n capacity group table : ℕ) (to : ℕ → Option ℕ) (s s' : ℕ �
 
       one_is : one_table i table i ≡ Some table
       one_is = ap (λ (b : Bool). if b then Some table else None) (eq-eqb i i refl)
+
+      apart : (place : ℕ) → (IsAmong (one_table i table) place → ⊥) → place ≢ table
+      apart place free same = free (i, one_is ∙ ap (λ (x : ℕ). Some x) (sym same))
+
+      no_such : (place : ℕ) → IsAmong no_table place → ⊥
+      no_such place among = let bad : None ≡ Some place = among.1 in absurd cc
+
+      still_free : (k place : ℕ) → IsNamedOnlyAt T capacity (entry_position T k) place → place ≢ table → IsNamedOnlyAt (layer h G0) capacity (entry_position (layer h G0) k) place
+      still_free k place only_entry differ m named = go (names0 m place named)
+        where
+          go : (names T capacity m ≡ Some place) ⊎ (place ≡ table) → m ≡ entry_position T k
+          go (inl was) = only_entry m was
+          go (inr same) = absurd (differ same)
 
       names_now : (m place : ℕ) → (names (layer h G0) capacity m ≡ Some place) ⊎ (IsAmong to place ⊎ IsAmong no_table place)
           → (names T capacity m ≡ Some place) ⊎ (IsAmong to place ⊎ IsAmong (one_table i table) place)
@@ -349,7 +363,8 @@ module _ (n capacity group table : ℕ) (to : ℕ → Option ℕ) (s s' : ℕ �
           ∙ sym (ap (λ (x : Option ℕ). byte_with F x (b % c) (own_byte T b)) e)
       bytes_now b (Some place) e =
           ap (λ (x : Option ℕ). byte_with G0 x (b % c) (own_byte (layer h G0) b)) e
-          ∙ ap (λ (x : ℕ). Some x) (byte_now (b / c) place (b % c) (mod-lt b (pow_pos h.cluster_bits)) e)
+          ∙ ap (λ (x : ℕ). Some x)
+          (byte_now (b / c) place (b % c) (links.counted (b / c) place e).begins (links.free (b / c) place e) (λ same. other (b / c) (e ∙ ap (λ (x : ℕ). Some x) same)) (mod-lt b (pow_pos h.cluster_bits)))
           ∙ sym (ap (λ (x : Option ℕ). byte_with F x (b % c) (own_byte T b)) e)
 
       word_now : (m table' : ℕ) → one_table i table m ≡ Some table' → (m ≡ i) ⊎ (m ≢ i) → G.word (l1_at T m / 8) ≡ l1_word table'

@@ -1,5 +1,6 @@
 -- A table is made in a cluster that nothing names, and then it is named.
-use Rattle.std.proofs.Common.{◌≡◌, ◌≢◌, ◌⊎◌, inl, inr, ℕ, ◌+◌, ◌-◌, ◌*◌, ◌/◌, ◌%◌, ◌^◌, ◌<◌, List, Option, Some, None, Ok, refl, sym, ap, ◌∙◌, subst}
+use Rattle.std.proofs.Common.{◌≡◌, ◌≢◌, ◌⊎◌, inl, inr, ℕ, ◌+◌, ◌-◌, ◌*◌, ◌/◌, ◌%◌, ◌^◌, ◌<◌, Bool, List, Option, Some, None, Ok, refl, sym, ap, ◌∙◌, subst, eq-eqb}
+use Rattle.std.specs.Prelude.{if◌then◌else◌}
 use Rattle.std.proofs.Math.Nat.{mod-lt}
 use Rattle.std.proofs.lemmas.Nat.{pow_pos}
 use Rattle.qcow_format.specs.Name.{backing_id}
@@ -7,7 +8,7 @@ use Rattle.qcow_format.specs.declared.header.Header.{Header}
 use Rattle.image_model.specs.File.{File, file_of}
 use Rattle.image_model.specs.Layer.{l1_at, l1_entry, own_byte}
 use Rattle.image_model.specs.Soundness.{IsSound, layer_header, names}
-use Rattle.layer_laws.specs.Laws.{AreSectors, OnlyWord, SameContent, SameOutside, layer}
+use Rattle.layer_laws.specs.Laws.{AreSectors, IsNamedOnlyAt, OnlyWord, SameContent, SameOutside, entry_position, layer}
 use Rattle.layer_laws.proofs.Clusters.{agrees, other_byte}
 use Rattle.layer_laws.proofs.Frames as frames
 use Rattle.layer_laws.proofs.Heads.{parent_kept}
@@ -38,8 +39,9 @@ module _ (h : Header) (capacity : ℕ) (to : ℕ → Option ℕ) (f g : File) (s
   -- entries that were made later
   pub linked_after : (behind : ℕ → Option ℕ) (e : File) → backing_id h g.head ≡ backing_id h f.head
       → ((k place o : ℕ) → to k ≡ Some place → o < 2 ^ h.cluster_bits → g.byte (place + o) ≡ f.byte (place + o))
+      → ((k place o : ℕ) → place % 2 ^ h.cluster_bits ≡ 0 → IsNamedOnlyAt (layer h f) capacity (entry_position (layer h f) k) place → (IsAmong behind place → ⊥) → o < 2 ^ h.cluster_bits → g.byte (place + o) ≡ f.byte (place + o))
       → Linked h capacity to behind g e → Linked h capacity to behind f e
-  linked_after behind e parent held linked = record {
+  linked_after behind e parent held stood linked = record {
     size = linked.size ∙ size;
     header = linked.header;
     parent = linked.parent ∙ parent;
@@ -50,6 +52,7 @@ module _ (h : Header) (capacity : ℕ) (to : ℕ → Option ℕ) (f g : File) (s
     counts = λ x. linked.counts x ∙ kept.counts x;
     names = λ m place is. named m place (linked.names m place is);
     bytes = λ i. linked.bytes i ∙ byte_now i (to (i / 2 ^ h.cluster_bits)) refl;
+    stands = λ k place o begins only free lt. linked.stands k place o begins (λ m named. only m (sym (kept.same.named m) ∙ named)) free lt ∙ stood k place o begins only free lt;
     words = linked.words;
     l1_words = linked.l1_words;
   }
@@ -98,9 +101,20 @@ module _ (n capacity group table : ℕ) (to : ℕ → Option ℕ) (s t s' : ℕ 
       (agrees n table (2 ^ h.cluster_bits) (2 ^ (h.cluster_bits - 9)) s t sectors (pow_pos h.cluster_bits) new.counted.begins outside)
       place o (links.counted k place given).begins lt (λ same. new.other k (given ∙ ap (λ (x : ℕ). Some x) same))
 
+  stood : (k place o : ℕ) → place % 2 ^ h.cluster_bits ≡ 0 → IsNamedOnlyAt (layer h F) capacity (entry_position (layer h F) k) place
+      → (IsAmong (one_table (row_of (layer h (file_of n s)) group) table) place → ⊥) → o < 2 ^ h.cluster_bits → M.byte (place + o) ≡ F.byte (place + o)
+  stood k place o begins only free lt =
+      let sectors = cluster_sectors h.cluster_bits (shape_of F capacity h is).low in
+      other_byte (2 ^ h.cluster_bits) (2 ^ (h.cluster_bits - 9)) table F M sectors new.counted.begins
+      (agrees n table (2 ^ h.cluster_bits) (2 ^ (h.cluster_bits - 9)) s t sectors (pow_pos h.cluster_bits) new.counted.begins outside)
+      place o begins lt (λ same. free (row_of (layer h (file_of n s)) group, one_is ∙ ap (λ (x : ℕ). Some x) (sym same)))
+    where
+      one_is : one_table (row_of (layer h (file_of n s)) group) table (row_of (layer h (file_of n s)) group) ≡ Some table
+      one_is = ap (λ (b : Bool). if b then Some table else None) (eq-eqb (row_of (layer h (file_of n s)) group) (row_of (layer h (file_of n s)) group) refl)
+
   pub linked : Linked h capacity to (one_table (row_of (layer h (file_of n s)) group) table) F G
   linked = linked_after h capacity to F M same_size framed (one_table (row_of (layer h (file_of n s)) group) table) G
-      (parent_kept n table capacity s t h are is new.counted.begins not_first outside) held
+      (parent_kept n table capacity s t h are is new.counted.begins not_first outside) held stood
       (filled n capacity group table to t s' h are_t are' framed.same.header framed.same.sound whole low (framed.same.tables (row_of (layer h (file_of n s)) group) low ∙ none)
       (links_now h capacity to F M same_size framed group links)
       (counted_now h capacity to F M same_size framed table new.counted)

@@ -381,11 +381,14 @@ module _ (n capacity group table : ℕ) (to : ℕ → Option ℕ) (s s' : ℕ �
   agree : Agrees c table F G
   agree = agrees n table c e s s' sectors (pow_pos h.cluster_bits) named.1 outside_table
 
-  -- a place that is given is none of a table's
-  not_table : (k place : ℕ) → to k ≡ Some place → place ≢ table
-  not_table k place given same =
+  -- a place that only an entry names is none of a table's
+  not_table : (k place : ℕ) → IsNamedOnlyAt T capacity (entry_position T k) place → place ≢ table
+  not_table k place free same =
       l1_not_l2 T (row_of T group) (k / entries T) (k % entries T) (entry_lt h F capacity shape clean k)
-      (links.free k place given (l1_position T (row_of T group)) (named.0 ∙ ap (λ (x : ℕ). Some x) (sym same)))
+      (free (l1_position T (row_of T group)) (named.0 ∙ ap (λ (x : ℕ). Some x) (sym same)))
+
+  stands : (k place offset : ℕ) → place % c ≡ 0 → IsNamedOnlyAt T capacity (entry_position T k) place → offset < c → G.byte (place + offset) ≡ F.byte (place + offset)
+  stands k place offset begins free lt = other_byte c (2 ^ (h.cluster_bits - 9)) table F G sectors named.1 agree place offset begins lt (not_table k place free)
 
   not_first : table ≢ 0
   not_first e =
@@ -397,10 +400,7 @@ module _ (n capacity group table : ℕ) (to : ℕ → Option ℕ) (s s' : ℕ �
   bytes i None e = whole_of.kept i e
   bytes i (Some place) e =
       ap (λ (x : Entry). byte_behind (layer h G) (i % c) x) (whole_of.entries (i / c) ∙ ap (λ (o : Option ℕ). entry_with o (entry_at T (i / c))) e)
-      ∙ ap (λ (b : ℕ). Some b) (other_byte c e' table F G sectors named.1 agree place (i % c) (links.counted (i / c) place e).begins (mod-lt i (pow_pos h.cluster_bits)) (not_table (i / c) place e))
-    where
-      e' : ℕ
-      e' = 2 ^ (h.cluster_bits - 9)
+      ∙ ap (λ (b : ℕ). Some b) (stands (i / c) place (i % c) (links.counted (i / c) place e).begins (links.free (i / c) place e) (mod-lt i (pow_pos h.cluster_bits)))
 
   word_now : (k place : ℕ) → to k ≡ Some place → G.word (l2_at table (k % entries T) / 8) ≡ word_of (Data place)
   word_now k place given =
@@ -433,6 +433,7 @@ module _ (n capacity group table : ℕ) (to : ℕ → Option ℕ) (s s' : ℕ �
     counts = whole_of.counts;
     names = λ m place is. given m place (whole_of.names m place is);
     bytes = λ i. bytes i (to (i / c)) refl;
+    stands = λ k place offset begins free other lt. stands k place offset begins free lt;
     words = λ k place table' is at. word_by k place table' is at;
     l1_words = λ i table' is. absurd (never table' is);
   }

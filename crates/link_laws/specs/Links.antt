@@ -109,6 +109,9 @@ pub record Linked (h : Header) (capacity : ℕ) (to behind : ℕ → Option ℕ)
   pub counts : (x : ℕ) → count_of (layer h g) x ≡ count_of (layer h f) x
   pub names : (m place : ℕ) → names (layer h g) capacity m ≡ Some place → (names (layer h f) capacity m ≡ Some place) ⊎ (IsAmong to place ⊎ IsAmong behind place)
   pub bytes : (i : ℕ) → own_byte (layer h g) i ≡ byte_with f (to (i / 2 ^ h.cluster_bits)) (i % 2 ^ h.cluster_bits) (own_byte (layer h f) i)
+  -- what stands in a cluster that nothing but an entry names, or nothing at all, stays there, unless it becomes a table
+  pub stands : (k place offset : ℕ) → place % 2 ^ h.cluster_bits ≡ 0 → IsNamedOnlyAt (layer h f) capacity (entry_position (layer h f) k) place → (IsAmong behind place → ⊥)
+      → offset < 2 ^ h.cluster_bits → g.byte (place + offset) ≡ f.byte (place + offset)
   -- bit 63 of what was written says that the refcount is exactly one
   pub words : (k place table : ℕ) → to k ≡ Some place → l1_entry (layer h g) (k / (2 ^ h.cluster_bits / 8)) ≡ Ok (Some table)
       → g.word (l2_at table (k % (2 ^ h.cluster_bits / 8)) / 8) ≡ word_of (Data place)
