@@ -92,7 +92,7 @@ abbrev AllOfRecords : List Check → Type 0
 AllOfRecords [] = Unit {0}
 AllOfRecords (c ∷ cs) = IsOfRecords c × AllOfRecords cs
 
-abbrev NoneRefuses : Image → Volumes → List Id → List Check → Type 0
+abbrev pub NoneRefuses : Image → Volumes → List Id → List Check → Type 0
 NoneRefuses i x vs [] = Unit {0}
 NoneRefuses i x vs (c ∷ cs) = ((e : Refusal) → Refuses i x vs c e → ⊥) × NoneRefuses i x vs cs
 
@@ -123,7 +123,7 @@ refusal_rest : (i : Image) (x : Volumes) (vs : List Id) (cs ds : List Check) (e 
 refusal_rest i x vs [] ds e none f = f
 refusal_rest i x vs (c ∷ cs) ds e none f = inr (none.0, refusal_rest i x vs cs ds e none.1 f)
 
-none_both : (i : Image) (x : Volumes) (vs : List Id) (cs ds : List Check) → NoneRefuses i x vs cs → NoneRefuses i x vs ds → NoneRefuses i x vs (cs ++ ds)
+pub none_both : (i : Image) (x : Volumes) (vs : List Id) (cs ds : List Check) → NoneRefuses i x vs cs → NoneRefuses i x vs ds → NoneRefuses i x vs (cs ++ ds)
 none_both i x vs [] ds none more = more
 none_both i x vs (c ∷ cs) ds none more = (none.0, none_both i x vs cs ds none.1 more)
 
@@ -137,7 +137,7 @@ none_of : (i : Image) (x : Volumes) (vs : List Id) (cs : List Check) → ((c : C
 none_of i x vs [] none = tt
 none_of i x vs (c ∷ cs) none = (none c (contains_here c cs), none_of i x vs cs (λ d h. none d (contains_more c d cs h)))
 
-none_at : (i : Image) (x : Volumes) (vs : List Id) (cs : List Check) → NoneRefuses i x vs cs → (c : Check) → Contains cs c → (e : Refusal)
+pub none_at : (i : Image) (x : Volumes) (vs : List Id) (cs : List Check) → NoneRefuses i x vs cs → (c : Check) → Contains cs c → (e : Refusal)
     → Refuses i x vs c e → ⊥
 none_at i x vs [] none c h e p = nothing_in c h
 none_at i x vs (d ∷ ds) none c h e p =
@@ -148,13 +148,13 @@ none_at i x vs (d ∷ ds) none c h e p =
 
 -- ---- the checks of an opening: those of count, texts and files, those of records, and those of layers
 
-abbrev front : List Id → List Check
+abbrev pub front : List Id → List Check
 front vs = count ∷ map text vs ++ map there vs
 
 regrouped : (f p q s : List Check) (c : Check) → ((f ++ p) ++ q) ++ (c ∷ s) ≡ (f ++ ((p ++ q) ++ (c ∷ []))) ++ s
 regrouped f p q s c = simp append_assoc
 
-checks_are : (vs path : List Id) → checks vs path ≡ (front vs ++ record_checks vs) ++ both layer header path
+pub checks_are : (vs path : List Id) → checks vs path ≡ (front vs ++ record_checks vs) ++ both layer header path
 checks_are vs path = regrouped (front vs) (map parents vs) (ring ∷ both format capacity vs) (both layer header path) reading
 
 not_bad : (v : Id) (o : Option (Result VolumeRecord VolumeFault)) (y : VolumeRecord) (e : Refusal) → option_and_then record_in o ≡ Some y
@@ -204,7 +204,7 @@ first_file i x all (y ∷ ys) v flags some = go y.has_file refl some (first_file
         let same : v ≡ y.id = cc in
         inl (file_missing (x.file y.id) (sym (flags y (contains_here y ys)) ∙ t), ap (λ (z : Id). NoVolume z) same)
 
-texts_pass : (i : Image) (x : Volumes) (xs : List Volume) → AreRead i x xs → NoneRefuses i x (ids_of xs) (count ∷ map text (ids_of xs))
+pub texts_pass : (i : Image) (x : Volumes) (xs : List Volume) → AreRead i x xs → NoneRefuses i x (ids_of xs) (count ∷ map text (ids_of xs))
 texts_pass i x xs read = (
   (λ e p. omega (arith, p.0, read.few, length_ids xs)),
   none_map i x (ids_of xs) (ids_of xs) text (λ v h e p. let has = some_record xs v h in not_bad v (text_of i x v) has.0 e (read.records v ∙ has.1) p),
@@ -268,7 +268,7 @@ refused_by_records i x xs e shown f =
       first = subst (λ (cs : List Check). FirstRefusal i x (ids_of xs) cs e) (sym (checks_are (ids_of xs) opened.0)) first;
     }
 
-passes_before_layers : (i : Image) (x : Volumes) (xs : List Volume) → IsShown i x xs → FirstIs (records_in xs) (record_checks (ids_of xs)) None
+pub passes_before_layers : (i : Image) (x : Volumes) (xs : List Volume) → IsShown i x xs → FirstIs (records_in xs) (record_checks (ids_of xs)) None
     → NoneRefuses i x (ids_of xs) (front (ids_of xs) ++ record_checks (ids_of xs))
 passes_before_layers i x xs shown f =
     none_both i x (ids_of xs) (front (ids_of xs)) (record_checks (ids_of xs)) (front_passes i x xs shown)
