@@ -1,0 +1,9 @@
+pub mod Chain
+pub mod Checking
+pub mod Fresh
+pub mod Knowing
+pub mod Left
+pub mod Opening
+pub mod Reached
+pub mod Stages
+pub mod Subchain

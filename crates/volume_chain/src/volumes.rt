@@ -1,0 +1,64 @@
+// The volumes of a path that are open.
+ghost use Rattle.std.specs.Prelude.{◌≡◌, ◌<◌, ◌≤◌, ◌++◌, [], ◌∷◌, length, IfOk};
+
+use qcow_layer::Layer;
+use sd_names::NoMemory;
+use std::alloc::Global;
+use std::marker::Model;
+
+/// How many volumes a path can have: a list of volumes has at most 33.
+const MOST: usize = 33;
+
+/// A volume of a path that is open.
+#[derive(Debug, Drop)]
+pub enum OpenVolume {
+    /// A raw volume, whose file was so long when its length was asked, in bytes.
+    Raw(u64),
+    /// A layer, which was found sound.
+    Cow(Layer),
+}
+
+/// The first volumes of a path, open, in its order. All room is taken when it is made. A contract sees the list.
+#[derive(Debug, Drop)]
+pub(crate) struct OpenVolumes {
+    volumes: Vec<OpenVolume>,
+}
+
+impl Model for OpenVolumes {
+    ghost use Rattle.std.specs.Prelude.{List, ◌≤◌, vec_len, vec_capacity};
+    ghost use Rattle.volume_chain.specs.declared.volumes.OpenVolume.{OpenVolume};
+
+    ghost Value = { List OpenVolume };
+
+    ghost view = { λ o. o.volumes.items };
+
+    ghost invariant = { λ o. (vec_len o.volumes ≤ 33) × (33 ≤ vec_capacity o.volumes) };
+}
+
+impl OpenVolumes {
+    /// None, with room for a path.
+    pub(crate) fn new(alloc: Global) -> Result<OpenVolumes, NoMemory>
+        ensures { IfOk result (λ o. o ≡ []) }
+    {
+        match Vec::with_capacity(alloc, MOST) {
+            Ok(volumes) => Ok(OpenVolumes { volumes }),
+            Err(_) => Err(NoMemory),
+        }
+    }
+
+    /// Puts a volume behind the others. It takes no memory.
+    pub(crate) fn push(&mut self, volume: OpenVolume)
+        requires { length self.old < 33 }
+        ensures { self.new ≡ self.old ++ volume ∷ [] }
+    {
+        self.volumes.push_reserved(volume)
+    }
+
+    /// The volumes, lent.
+    pub(crate) fn as_slice(&self) -> &[OpenVolume]
+        ensures list { result.now ≡ self.now }
+        ensures few { length result.now ≤ 33 }
+    {
+        &self.volumes
+    }
+}
