@@ -1,36 +1,34 @@
 -- What changes elsewhere leave of an image.
-use Rattle.std.proofs.Common.{◌≡◌, ◌⊎◌, ℕ, Option, Some, None, sym, subst, ◌∙◌, inl, inr}
+use Rattle.std.proofs.Common.{◌≡◌, ◌⊎◌, Option, ℕ, Some, None, sym, subst, ◌∙◌, inl, inr}
 use Rattle.sd_names.specs.UpSet.{Hosts}
 use Rattle.sd_names.specs.declared.id.Id.{Id}
 use Rattle.sd_names.specs.declared.place.Dir.TheVariants as dir
 use Rattle.sd_names.specs.declared.place.Name.{Name}
 use Rattle.sd_names.specs.declared.place.Name.TheVariants as name
 use Rattle.shared_disk.specs.Content.{Content, File}
+use Rattle.shared_disk.specs.NameCalls.{place_in}
 use Rattle.chain_model.specs.Folder.{Folder, folder_of}
 use Rattle.pool_model.specs.ImageStands.{FolderMeans}
-use Rattle.pool_model.specs.Laws.{LeavesImage}
-use Rattle.pool_model.specs.Leases.{Holds, IsGuest}
+use Rattle.pool_model.specs.Laws.{AreAlive, LeavesImage}
+use Rattle.pool_model.specs.Leases.{IsGuest}
 use Rattle.pool_model.specs.Pool.{Image, Pool, Torn}
-use Rattle.pool_model.specs.Standing.{ImageStands, IsHeldFile, IsThere, IsTornBy}
+use Rattle.pool_model.specs.Standing.{ImageStands, IsAlive, IsHeldFile, IsThere, IsTornBy}
 
-guest_stays : (d e : Content) (p q : Pool) (sd i : Id) (h : ℕ) → LeavesImage d e p q sd i → IsGuest p sd i h → IsGuest q sd i h
-guest_stays d e p q sd i h leaves (k, (r, names, kind, owner)) = (k, (r, leaves.named k r names, kind, owner))
+guest_stays : (up : Hosts) (d e : Content) (p q : Pool) (sd i : Id) (h : ℕ) → LeavesImage up d e p q sd i → IsGuest p sd i h → IsGuest q sd i h
+guest_stays up d e p q sd i h leaves (k, (r, names, kind, owner)) = (k, (r, leaves.named k r names, kind, owner))
 
-holds_stays : (d e : Content) (p q : Pool) (sd i : Id) (h : ℕ) → LeavesImage d e p q sd i → Holds p h sd i → Holds q h sd i
-holds_stays d e p q sd i h leaves (inl guest) = inl (guest_stays d e p q sd i h leaves guest)
-holds_stays d e p q sd i h leaves (inr (lead, (k, (r, names, kind)))) = inr (leaves.leads h lead, (k, (r, leaves.named k r names, kind)))
-
-held_stays : (d e : Content) (p q : Pool) (sd i : Id) (f : File) → LeavesImage d e p q sd i → IsHeldFile p sd i f → IsHeldFile q sd i f
-held_stays d e p q sd i f leaves held = record {
-  loose = λ l among. holds_stays d e p q sd i l.host leaves (held.loose l among);
-  fresh = λ h is. holds_stays d e p q sd i h leaves (held.fresh h is);
+held_stays : (up : Hosts) (d e : Content) (p q : Pool) (sd i : Id) (f : File) → LeavesImage up d e p q sd i → IsAlive up f → IsHeldFile p sd i f
+    → IsHeldFile q sd i f
+held_stays up d e p q sd i f leaves alive held = record {
+  loose = λ l among. leaves.holds l.host (alive.loose l among) (held.loose l among);
+  fresh = λ h is. leaves.holds h (alive.fresh h is) (held.fresh h is);
 }
 
-torn_stays : (up : Hosts) (d e : Content) (p q : Pool) (sd i : Id) (o : Option Torn) → LeavesImage d e p q sd i → IsTornBy up p sd i o → IsTornBy up q sd i o
+torn_stays : (up : Hosts) (d e : Content) (p q : Pool) (sd i : Id) (o : Option Torn) → LeavesImage up d e p q sd i → IsTornBy up p sd i o → IsTornBy up q sd i o
 torn_stays up d e p q sd i None leaves torn = torn
-torn_stays up d e p q sd i (Some t) leaves (h, guest, here) = (h, guest_stays d e p q sd i h leaves guest, here)
+torn_stays up d e p q sd i (Some t) leaves (h, guest, here) = (h, guest_stays up d e p q sd i h leaves guest, here)
 
-there_stays : (up : Hosts) (d e : Content) (p q : Pool) (sd i : Id) (version : ℕ) (m : Image) → LeavesImage d e p q sd i
+there_stays : (up : Hosts) (d e : Content) (p q : Pool) (sd i : Id) (version : ℕ) (m : Image) → LeavesImage up d e p q sd i
     → IsThere up d p sd version i m → IsThere up e q sd version i m
 there_stays up d e p q sd i version m leaves there = record {
   image = leaves.image ∙ there.image;
@@ -45,9 +43,9 @@ there_stays up d e p q sd i version m leaves there = record {
     same : folder_of (dir.Image sd i) e ≡ folder_of (dir.Image sd i) d
     same j n = leaves.files n j
 
-pub image_stays : (up : Hosts) (d e : Content) (p q : Pool) (sd i : Id) (version : ℕ) → LeavesImage d e p q sd i → ImageStands up d p sd version i
-    → ImageStands up e q sd version i
-image_stays up d e p q sd i version leaves stands = record {
+pub image_stays : (up : Hosts) (d e : Content) (p q : Pool) (sd i : Id) (version : ℕ) → AreAlive up d → LeavesImage up d e p q sd i
+    → ImageStands up d p sd version i → ImageStands up e q sd version i
+image_stays up d e p q sd i version alive leaves stands = record {
   gone = λ none. let gone = stands.gone (λ k r names. none k r (leaves.named k r names)) in record {
     image = leaves.image ∙ gone.image;
     folder = leaves.folder ∙ gone.folder;
@@ -56,9 +54,13 @@ image_stays up d e p q sd i version leaves stands = record {
   there = λ is idle. let there = stands.there (is.0, (is.1.0, leaves.was_named is.0 is.1.0 is.1.1)) (λ making. idle (leaves.making making)) in
       (there.0, there_stays up d e p q sd i version there.0 leaves there.1);
   making = λ making k r names. stands.making (leaves.was_making making) k r (leaves.was_named k r names);
-  held = λ n f is at. held_stays d e p q sd i f leaves (stands.held n f is (was n f at));
+  held = λ n f is at. held_stays up d e p q sd i f leaves (lives n f (was n f at)) (stands.held n f is (was n f at));
 }
   where
+    lives : (n : Name) (f : File) → (folder_of (dir.Image sd i) d n ≡ Some f) ⊎ (folder_of (dir.Removed sd i) d n ≡ Some f) → IsAlive up f
+    lives n f (inl is) = alive (place_in (dir.Image sd i) n) f is
+    lives n f (inr is) = alive (place_in (dir.Removed sd i) n) f is
+
     was : (n : Name) (f : File) → (folder_of (dir.Image sd i) e n ≡ Some f) ⊎ (folder_of (dir.Removed sd i) e n ≡ Some f)
         → (folder_of (dir.Image sd i) d n ≡ Some f) ⊎ (folder_of (dir.Removed sd i) d n ≡ Some f)
     was n f (inl is) = inl (sym (leaves.files n) ∙ is)

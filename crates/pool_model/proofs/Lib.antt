@@ -14,3 +14,5 @@ pub mod Boots
 pub mod Guests
 pub mod Begins
 pub mod Booted
+pub mod Roles
+pub mod Stable

@@ -29,7 +29,7 @@ pub one_stored : (d : Content) (place : Place) (a b : List ℕ) → HasStored d 
 one_stored d place a b x y =
     sym x.stored ∙ ap (λ (f : File). stored_text f) (same_file (d.file place) x.file y.file x.there y.there) ∙ y.stored
 
-one_text : (d : Content) (sd : Id) (t u : Said) → HasDomainText d sd t → HasDomainText d sd u → t ≡ u
+pub one_text : (d : Content) (sd : Id) (t u : Said) → HasDomainText d sd t → HasDomainText d sd u → t ≡ u
 one_text d sd t u x y = sym x.2 ∙ ap (λ (text : List ℕ). read_domain sd text) (one_stored d (metadata_of sd) x.0 y.0 x.1 y.1) ∙ y.2
 
 -- what a domain's text is, where it is there

@@ -1,5 +1,5 @@
 -- Laws of disks that stand for a pool, as statements.
-use Rattle.std.specs.Prelude.{◌≡◌, ◌≢◌, ◌⊎◌, ℕ, ◌*◌, ◌<◌, true, false, List, [], ◌∷◌, length, Some, None, Ok}
+use Rattle.std.specs.Prelude.{◌≡◌, ◌≢◌, ◌⊎◌, Option, ℕ, ◌*◌, ◌<◌, ◌≤◌, true, false, List, [], ◌∷◌, length, Some, None, Ok}
 use Rattle.sd_names.specs.UpSet.{Hosts, is_up}
 use Rattle.sd_names.specs.declared.id.Id.{Id}
 use Rattle.sd_names.specs.Id.{zero_id}
@@ -20,7 +20,11 @@ use Rattle.folder_layout.specs.Layout.{HoldsName}
 use Rattle.volume_meta.specs.Read.{read_volume}
 use Rattle.volume_meta.specs.declared.record.VolumeRecord.{VolumeRecord}
 use Rattle.domain_meta.specs.declared.record.DomainRecord.{DomainRecord}
+use Rattle.lease_area.specs.Hold.{IsMoved}
+use Rattle.lease_area.specs.Sector.{IsRecord}
+use Rattle.lease_area.specs.declared.sector.Kind.TheVariants.{Task}
 use Rattle.lease_area.specs.declared.sector.LeaseRecord.{LeaseRecord}
+use Rattle.lease_area.specs.declared.sector.Sector.TheVariants.{Lease}
 use Rattle.chain_model.specs.Chain.{IsBelow, counting}
 use Rattle.chain_model.specs.Flat.{IsSectorOf, flat}
 use Rattle.chain_model.specs.Folder.{Folder, Volumes, folder_of, volumes_of}
@@ -28,17 +32,20 @@ use Rattle.chain_model.specs.Reading.{IsReading}
 use Rattle.chain_model.specs.Records.{Image as ImageIn, records_of, stored_text}
 use Rattle.pool_model.specs.Covered.{Covered, Keeps}
 use Rattle.pool_model.specs.ImageStands.{FolderMeans, IsImage}
+use Rattle.pool_model.specs.Downs.{DownPool}
 use Rattle.pool_model.specs.Kept.{IsKept}
-use Rattle.pool_model.specs.Leases.{Holds, IsGuest, IsNamed, Leads, NamesAt}
+use Rattle.pool_model.specs.Knows.{Knows}
+use Rattle.pool_model.specs.Leases.{Holds, IsGuest, IsNamed, NamesAt}
 use Rattle.pool_model.specs.Lines.{Moves}
+use Rattle.pool_model.specs.Marks.{change, make_master}
 use Rattle.pool_model.specs.Made.{base_image, master_pool}
-use Rattle.pool_model.specs.Owned.{AlsoLonger, OwnedImages}
-use Rattle.pool_model.specs.Pool.{History, Image, Pool, Volume, no_pool}
+use Rattle.pool_model.specs.Owned.{AlsoLonger, OwnedImages, OwnedPool}
+use Rattle.pool_model.specs.Pool.{History, Image, Pool, Volume, no_pool, put_sector}
 use Rattle.pool_model.specs.Reading.{records_in}
 use Rattle.pool_model.specs.Same.{SamePool}
 use Rattle.pool_model.specs.Sizes.{Sizes}
 use Rattle.pool_model.specs.Standing.{HasDomainText, HasFolders, ImageStands, IsAlive, IsVolumeName, IsZeroFile, Stands, box_sectors, file_in, lease_sectors, metadata_of}
-use Rattle.pool_model.specs.State.{Kept, State}
+use Rattle.pool_model.specs.State.{HostState, Kept, Running, State, booted}
 use Rattle.pool_model.specs.Tasks.{IsMaking}
 
 -- ---- the empty disk
@@ -163,8 +170,8 @@ ReadingAgrees =
 -- ---- what changes elsewhere leave
 
 -- From d to e, and from p to q, nothing of the image has changed: not its folders, what the pool says of it, the sectors that
--- name it, or the tasks that make or remove it; and who leads still does.
-pub record LeavesImage (d e : Content) (p q : Pool) (sd i : Id) : Type 0 where
+-- name it, or the tasks that make or remove it; and each host that is up holds it still, where it did.
+pub record LeavesImage (up : Hosts) (d e : Content) (p q : Pool) (sd i : Id) : Type 0 where
   pub image : q.image sd i ≡ p.image sd i
   pub folder : e.dir (dir.Image sd i) ≡ d.dir (dir.Image sd i)
   pub removed : e.dir (dir.Removed sd i) ≡ d.dir (dir.Removed sd i)
@@ -174,12 +181,29 @@ pub record LeavesImage (d e : Content) (p q : Pool) (sd i : Id) : Type 0 where
   pub was_named : (k : ℕ) (r : LeaseRecord) → NamesAt q sd i k r → NamesAt p sd i k r
   pub making : IsMaking p sd i → IsMaking q sd i
   pub was_making : IsMaking q sd i → IsMaking p sd i
-  pub leads : (h : ℕ) → Leads p h → Leads q h
+  pub holds : (h : ℕ) → is_up up h ≡ true → Holds p h sd i → Holds q h sd i
+
+-- each unsynced write is of a host that is up
+abbrev pub AreAlive : Hosts → Content → Type 0
+AreAlive up d = (at : Place) (f : File) → d.file at ≡ Some f → IsAlive up f
 
 abbrev pub ImageFrame : Type 0
 ImageFrame =
-    (up : Hosts) (d e : Content) (p q : Pool) (sd i : Id) (version : ℕ) → LeavesImage d e p q sd i → ImageStands up d p sd version i
+    (up : Hosts) (d e : Content) (p q : Pool) (sd i : Id) (version : ℕ) → AreAlive up d → LeavesImage up d e p q sd i → ImageStands up d p sd version i
     → ImageStands up e q sd version i
+
+-- ---- what a move of sector 0 leaves
+
+-- sector 0 of a domain is this lease
+abbrev pub with_role : Pool → Id → LeaseRecord → Pool
+with_role p m new = put_sector p m 0 (Lease new)
+
+-- By one exchange sector 0 of the master is another lease, for no task; and whoever is up and holds an image still does.
+abbrev pub RoleFrame : Type 0
+RoleFrame =
+    (up : Hosts) (d e : Content) (p : Pool) (m : Id) (new : LeaseRecord) → Stands up d p → p.master ≡ Some m → IsMoved d m 0 (Lease new) e
+    → IsRecord new → new.kind ≢ Task → ((sd i : Id) (h : ℕ) → is_up up h ≡ true → Holds p h sd i → Holds (with_role p m new) h sd i)
+    → Stands up e (with_role p m new)
 
 -- ---- what owned changes leave
 
@@ -211,3 +235,24 @@ BeginsKeep = (h : ℕ) (p : Pool) (s : Sizes) → (k : Kept) × IsKept h p k × 
 -- a host that a boot answers ok is up, where the list has its number, as the first state's has
 abbrev pub BootedAreUp : Type 0
 BootedAreUp = (s t : State) (n m h : ℕ) (bytes : List ℕ) → h < length s.up → Moves (line.Boot h) s n (Some reply.Plain) bytes t m → is_up t.up h ≡ true
+
+-- ---- what a host knows, and others
+
+-- no pool is about to be made by this verb
+abbrev pub MakesNone : Option Running → Type 0
+MakesNone None = Unit {0}
+MakesNone (Some run) = (r : DomainRecord) → run.marks ≡ change (make_master r) ∷ [] → ⊥
+
+-- What a host that is up knows stays true where another host changes only what it may; the two don't make a pool at once.
+abbrev pub OthersKnow : Type 0
+OthersKnow =
+    (up : Hosts) (d : Content) (p q : Pool) (h g : ℕ) (x : HostState) → Stands up d p → OwnedPool h up p q → g ≢ h → 1 ≤ g → is_up up g ≡ true
+    → (q.master ≡ p.master) ⊎ MakesNone x.running → Knows g x p → Knows g x q
+
+-- and where another host goes down
+abbrev pub DownsKnow : Type 0
+DownsKnow = (up : Hosts) (d : Content) (p q : Pool) (h g : ℕ) (x : HostState) → Stands up d p → DownPool h p q → g ≢ h → Knows g x p → Knows g x q
+
+-- a host that isn't up, and boots, knows what a booted host has to
+abbrev pub BootedKnow : Type 0
+BootedKnow = (up : Hosts) (d : Content) (p : Pool) (h : ℕ) → Stands up d p → is_up up h ≡ false → Knows h booted p

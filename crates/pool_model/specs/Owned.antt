@@ -20,7 +20,7 @@ use Rattle.lease_area.specs.declared.sector.Sector.TheVariants.{Empty, Lease}
 use Rattle.chain_model.specs.Growth.{MayGrow}
 use Rattle.pool_model.specs.Leases.{Holds, IsUnnamed, Leads}
 use Rattle.pool_model.specs.Pool.{Image, Pool, Torn, Volume}
-use Rattle.pool_model.specs.Rules.{IsListed}
+use Rattle.pool_model.specs.Rules.{IsListed, text_of}
 use Rattle.pool_model.specs.Standing.{HasDomainText, metadata_of}
 use Rattle.pool_model.specs.Verb.{Verb}
 use Rattle.pool_model.specs.Verb as verb
@@ -141,3 +141,20 @@ AlsoLonger (Some m) (Some n) = IsLongerImage m n
 -- Each image that the step changed in the pool is one that the host holds, or one of which the manager made a file longer.
 abbrev pub OwnedImages : ℕ → Pool → Pool → Type 0
 OwnedImages h p q = (sd i : Id) → (q.image sd i ≡ p.image sd i) ⊎ (Holds p h sd i ⊎ (Leads p h × AlsoLonger (p.image sd i) (q.image sd i)))
+
+-- ---- the same for the rest of the pool
+
+-- a sector stays, or makes a move that the host may make
+abbrev pub OwnedSector : ℕ → Hosts → Pool → Id → ℕ → Sector → Type 0
+OwnedSector h up p sd k new = (new ≡ p.sector sd k) ⊎ ((spm : Bool) × ((spm ≡ true → Leads p h) × LeaseMove up h spm k (p.sector sd k) new))
+
+-- A step of the host changed the pool from p to q. Domains and tasks are the manager's, or of a host that makes the pool;
+-- sectors move one by one, those of a domain that joins the list too: what its leases file held before doesn't count.
+pub record OwnedPool (h : ℕ) (up : Hosts) (p q : Pool) : Type 0 where
+  pub sectors : (sd : Id) (k : ℕ) → OwnedSector h up p sd k (q.sector sd k)
+  pub tasks : ((t : Id) → q.task t ≡ p.task t) ⊎ Leads p h
+  pub master : (q.master ≡ p.master) ⊎ (p.master ≡ None)
+  pub domains : ((sd : Id) → q.domain sd ≡ p.domain sd) ⊎ (Leads p h ⊎ (p.master ≡ None))
+  pub lists : (sd : Id) (r : DomainRecord) → p.domain sd ≡ Some r → ((s : DomainRecord) × (q.domain sd ≡ Some s)) ⊎ IsLeftEmpty p sd
+  pub texts : (sd : Id) → text_of p sd ≢ None → text_of q sd ≢ None
+  pub images : OwnedImages h p q

@@ -1,8 +1,8 @@
 // Laws of disks that stand for a pool.
-ghost use Rattle.pool_model.specs.Laws.{BeginsKeep, BootedAreUp, BootsStand, EmptyStands, FlatListsAreRead};
+ghost use Rattle.pool_model.specs.Laws.{BeginsKeep, BootedAreUp, BootedKnow, BootsStand, DownsKnow, EmptyStands, FlatListsAreRead};
 ghost use Rattle.pool_model.specs.Laws.{GuestsHoldAlone, GuestsKeepImages, GuestsWriteAlone, ImageFrame};
-ghost use Rattle.pool_model.specs.Laws.{MadePoolsStand, NobodySettles, NobodyTears, OnePool, RawBasesMean};
-ghost use Rattle.pool_model.specs.Laws.{ReadingAgrees, SettledFoldersMean, StandingIsCovered, StandingKeeps};
+ghost use Rattle.pool_model.specs.Laws.{MadePoolsStand, NobodySettles, NobodyTears, OnePool, OthersKnow, RawBasesMean};
+ghost use Rattle.pool_model.specs.Laws.{ReadingAgrees, RoleFrame, SettledFoldersMean, StandingIsCovered, StandingKeeps};
 
 /// A law: a disk that holds nothing stands for the pool that isn't made yet, whichever hosts are up.
 pub fn empty_disks_stand()
@@ -59,10 +59,16 @@ pub fn one_volume_is_read()
     ensures { ReadingAgrees }
 {}
 
-/// A law: a step that leaves an image's folders, its sector, its tasks and what the pool says of it alone leaves what
-/// the disk has to say of the image.
+/// A law: a step that leaves an image's folders, its sector, its tasks and what the pool says of it alone, and leaves it
+/// to the hosts that are up and hold it, leaves what the disk has to say of the image.
 pub fn images_stand_alone()
     ensures { ImageFrame }
+{}
+
+/// A law: where sector 0 of the master becomes another lease by one exchange, for no task, the disk stands for the pool
+/// with that lease, as long as whoever is up and holds an image still does.
+pub fn roles_move_alone()
+    ensures { RoleFrame }
 {}
 
 /// A law: a step of a host, all of whose changes of images are owned, leaves an image of which another host is the
@@ -86,4 +92,17 @@ pub fn begins_keep_what_there_is()
 /// A law: a host whose boot is answered ok is up, where the list of hosts has its number.
 pub fn booted_hosts_are_up()
     ensures { BootedAreUp }
+{}
+
+/// A law: what a host that is up knows stays true where another host changes only what it may, and where another one goes
+/// down, as long as the two don't make a pool at once.
+pub fn knowledge_survives_others()
+    ensures owned { OthersKnow }
+    ensures down { DownsKnow }
+{}
+
+/// A law: a host that isn't up, and boots, knows what a booted host has to know: no write of its former life is mixed into
+/// an image.
+pub fn booted_hosts_know()
+    ensures { BootedKnow }
 {}
