@@ -16,3 +16,4 @@ pub mod Begins
 pub mod Booted
 pub mod Roles
 pub mod Stable
+pub mod Downs

@@ -1,6 +1,6 @@
 -- A move of sector 0 of the master leaves all that the disk has to say of the rest of the pool.
 use Rattle.std.proofs.Common.{◌≡◌, ◌≢◌, ◌⊎◌, ℕ, ◌<◌, ◌≤◌, ◌==◌, Bool, true, false, List, [], Option, Some, None, refl, sym, ap, subst, ◌∙◌, inl, inr, arith}
-use Rattle.std.proofs.lemmas.Bool.{false≢true}
+use Rattle.std.proofs.lemmas.Bool.{eqb-true, false≢true}
 use Rattle.std.specs.Prelude.{Contains, if◌then◌else◌, Result, Ok}
 use Rattle.sd_names.specs.UpSet.{Hosts, is_up}
 use Rattle.sd_names.specs.declared.fault.DomainFault.{DomainFault}
@@ -37,7 +37,7 @@ use Rattle.pool_model.specs.Leases.{Holds, NamesAt}
 use Rattle.pool_model.specs.Pool.{Box, Pool, at_number}
 use Rattle.pool_model.specs.Standing.{BoxesStand, DomainStands, HasDomainText, HasFolders, HasStored, ImageStands, IsAlive, IsBare, IsUnasked, IsZeroFile, LeasesStand, ListedStands, MasterLists, MasterStands, ShowsImage, Stands, StrayStands, TaskAt, TasksStand, file_in, lease_sectors}
 use Rattle.pool_model.proofs.Frames.{image_stays}
-use Rattle.pool_model.specs.Owned.{IsLeasesChange, MayChange, OwnedChange}
+use Rattle.pool_model.specs.Owned.{IsLeasesChange, MayChange, OwnedChange, OwnedPool, OwnedSector}
 use Rattle.pool_model.specs.Verb.{Verb}
 use Rattle.pool_model.proofs.OneDomain.{listed_here, one_text}
 
@@ -396,3 +396,43 @@ nothing_owned h up v p d = record {
   where
     said_alike : (r s : DomainRecord) → ◌≡◌ {A = Result DomainRecord DomainFault} (Ok r) (Ok s) → r ≡ s
     said_alike r s e = cc
+
+-- ---- the same of the pool
+
+-- the pool is as it was
+pub nothing_changed : (h : ℕ) (up : Hosts) (p : Pool) → OwnedPool h up p p
+nothing_changed h up p = record {
+  sectors = λ sd k. inl refl;
+  tasks = inl (λ t. refl);
+  master = inl refl;
+  domains = inl (λ sd. refl);
+  lists = λ sd r listed. inl (r, listed);
+  texts = λ sd some. some;
+  boxes = λ side sd g w among. inl among;
+  images = λ sd i. inl refl;
+}
+
+-- sector 0 of the master made a move of the host's
+pub role_changed : (h : ℕ) (up : Hosts) (p : Pool) (m : Id) (new : LeaseRecord) → LeaseMove up h false 0 (p.sector m 0) (Lease new)
+    → OwnedPool h up p (with_role p m new)
+role_changed h up p m new move = record {
+  sectors = λ sd k. at sd k (is_one sd m);
+  tasks = inl (λ t. refl);
+  master = inl refl;
+  domains = inl (λ sd. refl);
+  lists = λ sd r listed. inl (r, listed);
+  texts = λ sd some. some;
+  boxes = λ side sd g w among. inl among;
+  images = λ sd i. inl refl;
+}
+  where
+    here_at : (k : ℕ) (b : Bool) → (k == 0) ≡ b → OwnedSector h up p m k ((with_role p m new).sector m k)
+    here_at k true e = subst (λ (n : ℕ). OwnedSector h up p m n ((with_role p m new).sector m n)) (sym (eqb-true k 0 e))
+        (subst (λ (s : Sector). OwnedSector h up p m 0 s) (sym (ap (λ (s : ℕ → Sector). s 0) (here_sectors p m new)))
+        (inr (false, (λ is. absurd (false≢true is), move))))
+    here_at k false e =
+        inl (ap (λ (s : ℕ → Sector). s k) (here_sectors p m new) ∙ ap (λ (b : Bool). if b then Lease new else p.sector m k) e)
+
+    at : (sd : Id) (k : ℕ) → (sd ≡ m) ⊎ (sd ≢ m) → OwnedSector h up p sd k ((with_role p m new).sector sd k)
+    at sd k (inl same) = subst (λ (a : Id). OwnedSector h up p a k ((with_role p m new).sector a k)) (sym same) (here_at k (k == 0) refl)
+    at sd k (inr apart) = inl (ap (λ (s : ℕ → Sector). s k) (other_sectors p m new sd apart))

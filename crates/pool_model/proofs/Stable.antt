@@ -4,6 +4,7 @@ use Rattle.std.proofs.lemmas.Bool.{eqb-true, false≢true}
 use Rattle.std.specs.Prelude.{MatchBool}
 use Rattle.sd_names.specs.UpSet.{Hosts, is_up}
 use Rattle.sd_names.specs.declared.id.Id.{Id}
+use Rattle.sd_names.specs.declared.task_state.TaskState.{TaskState}
 use Rattle.shared_disk.specs.Content.{Content}
 use Rattle.domain_meta.specs.declared.record.DomainRecord.{DomainRecord}
 use Rattle.task_store.specs.declared.task.Task.{Task}
@@ -15,7 +16,7 @@ use Rattle.lease_area.specs.declared.sector.LeaseRecord.{LeaseRecord}
 use Rattle.lease_area.specs.declared.sector.Sector.{Sector}
 use Rattle.lease_area.specs.declared.sector.Sector.TheVariants.{Empty, Lease}
 use Rattle.pool_model.specs.Downs.{DownImage, DownPool}
-use Rattle.pool_model.specs.Knows.{Knows, KnowsManager, KnowsMaking, KnowsOpened, KnowsRole, KnowsTexts, KnowsTorn, Writes}
+use Rattle.pool_model.specs.Knows.{Knows, KnowsLists, KnowsManager, KnowsMaking, KnowsOpened, KnowsRole, KnowsTexts, KnowsTorn, Writes}
 use Rattle.pool_model.specs.Laws.{MakesNone}
 use Rattle.pool_model.specs.Leases.{Holds, IsGuest, IsTasked, Leads, NamesAt}
 use Rattle.pool_model.specs.Owned.{AlsoLonger, IsLeftEmpty, LaysAlike, OwnedPool, OwnedSector}
@@ -207,7 +208,7 @@ module _ (up : Hosts) (d : Content) (p q : Pool) (h g : ℕ) (stands : Stands up
     )
 
     -- sector 0 of a manager
-    role_sector : (m : Id) (r : LeaseRecord) → p.sector m 0 ≡ Lease r → r.owner ≡ g → OwnedSector h up p m 0 (q.sector m 0) → q.sector m 0 ≡ p.sector m 0
+    pub role_sector : (m : Id) (r : LeaseRecord) → p.sector m 0 ≡ Lease r → r.owner ≡ g → OwnedSector h up p m 0 (q.sector m 0) → q.sector m 0 ≡ p.sector m 0
     role_sector m r lease owner (inl same) = same
     role_sector m r lease owner (inr (spm, (leads_is, inl (may, now)))) =
         absurd (false≢true (sym (closed up h g apart some alive) ∙ sym (ap (λ (o : ℕ). is_open up h o) (ap owner_of lease ∙ owner)) ∙ may))
@@ -241,6 +242,25 @@ module _ (up : Hosts) (d : Content) (p q : Pool) (h g : ℕ) (stands : Stands up
         go : (q.master ≡ p.master) ⊎ (p.master ≡ None) → q.master ≡ Some m.master
         go (inl same) = same ∙ knows.master
         go (inr none) = absurd (no_master p.master m.master none knows.master)
+
+    same_domains : (m : Manager) → KnowsManager g m p → (sd : Id) → q.domain sd ≡ p.domain sd
+    same_domains m knows sd = go owned.domains
+      where
+        go : ((a : Id) → q.domain a ≡ p.domain a) ⊎ (Leads p h ⊎ (p.master ≡ None)) → q.domain sd ≡ p.domain sd
+        go (inl same) = same sd
+        go (inr (inl lead)) = absurd (not_leading m knows lead)
+        go (inr (inr none)) = absurd (no_master p.master m.master none knows.master)
+
+    pub lists_stay : (m : Manager) (domains : List Id) (tasks : List (Id × TaskState)) → KnowsManager g m p → KnowsLists domains tasks m.begun p
+        → KnowsLists domains tasks m.begun q
+    lists_stay m domains tasks knows x = record {
+      rising = x.rising;
+      domains_are = λ sd among. let is = x.domains_are sd among in (is.0, same_domains m knows sd ∙ is.1);
+      all_domains = λ sd r is. x.all_domains sd r (sym (same_domains m knows sd) ∙ is);
+      order = x.order;
+      tasks_are = λ t s other among. let is = x.tasks_are t s other among in (is.0, same_tasks m knows t ∙ is.1, is.2);
+      all_tasks = λ t y other is. x.all_tasks t y other (sym (same_tasks m knows t) ∙ is);
+    }
 
     role_stays : (r : Role) → KnowsRole g r p → KnowsRole g r q
     role_stays outside knows = tt
@@ -386,6 +406,17 @@ module _ (up : Hosts) (d : Content) (p q : Pool) (h g : ℕ) (stands : Stands up
       none_open = λ rests t x is. knows.none_open rests t x (down_open t x is);
       none_held = λ rests sd i is. knows.none_held rests sd i (is.0, (is.1.0, up_names sd i is.0 is.1.0 is.1.1, is.1.2));
       one_open = λ t u x begun is. knows.one_open t u x begun (down_open u x is);
+    }
+
+    pub down_lists : (begun : Option Id) (domains : List Id) (tasks : List (Id × TaskState)) → KnowsLists domains tasks begun p
+        → KnowsLists domains tasks begun q
+    down_lists begun domains tasks x = record {
+      rising = x.rising;
+      domains_are = λ sd among. let is = x.domains_are sd among in (is.0, ap (λ (f : Id → Option DomainRecord). f sd) down.domain ∙ is.1);
+      all_domains = λ sd r is. x.all_domains sd r (sym (ap (λ (f : Id → Option DomainRecord). f sd) down.domain) ∙ is);
+      order = x.order;
+      tasks_are = λ t s other among. let is = x.tasks_are t s other among in (is.0, ap (λ (f : Id → Option Task). f t) down.task ∙ is.1, is.2);
+      all_tasks = λ t y other is. x.all_tasks t y other (sym (ap (λ (f : Id → Option Task). f t) down.task) ∙ is);
     }
 
     down_opened : (run : Option Running) (o : Opened) → KnowsOpened g run o p → KnowsOpened g run o q

@@ -1,5 +1,5 @@
 -- Laws of disks that stand for a pool, as statements.
-use Rattle.std.specs.Prelude.{◌≡◌, ◌≢◌, ◌⊎◌, Option, ℕ, ◌*◌, ◌<◌, ◌≤◌, true, false, List, [], ◌∷◌, length, Some, None, Ok}
+use Rattle.std.specs.Prelude.{◌≡◌, ◌≢◌, ◌⊎◌, Option, ℕ, ◌*◌, ◌<◌, ◌≤◌, true, false, List, [], ◌∷◌, length, Contains, Some, None, Ok}
 use Rattle.sd_names.specs.UpSet.{Hosts, is_up}
 use Rattle.sd_names.specs.declared.id.Id.{Id}
 use Rattle.sd_names.specs.Id.{zero_id}
@@ -14,7 +14,7 @@ use Rattle.sd_names.specs.declared.place.Place.{Place}
 use Rattle.script_lines.specs.declared.event.Line.TheVariants as line
 use Rattle.script_lines.specs.declared.reply.Reply.TheVariants as reply
 use Rattle.shared_disk.specs.Content.{Content, File, IsEmpty, zero_sector}
-use Rattle.shared_disk.specs.Crash.{IsAllSettled, IsAlone, IsOutcome, IsSettled}
+use Rattle.shared_disk.specs.Crash.{DownLeaves, IsAllSettled, IsAlone, IsOutcome, IsSettled}
 use Rattle.shared_disk.specs.NameCalls.{place_in}
 use Rattle.folder_layout.specs.Layout.{HoldsName}
 use Rattle.volume_meta.specs.Read.{read_volume}
@@ -34,13 +34,15 @@ use Rattle.pool_model.specs.Covered.{Covered, Keeps}
 use Rattle.pool_model.specs.ImageStands.{FolderMeans, IsImage}
 use Rattle.pool_model.specs.Downs.{DownPool}
 use Rattle.pool_model.specs.Kept.{IsKept}
-use Rattle.pool_model.specs.Knows.{Knows}
+use Rattle.pool_model.specs.Knows.{Knows, KnowsLists, KnowsManager}
+use Rattle.pool_model.specs.Role.{Manager}
+use Rattle.sd_names.specs.declared.task_state.TaskState.{TaskState}
 use Rattle.pool_model.specs.Leases.{Holds, IsGuest, IsNamed, NamesAt}
 use Rattle.pool_model.specs.Lines.{Moves}
 use Rattle.pool_model.specs.Marks.{change, make_master}
 use Rattle.pool_model.specs.Made.{base_image, master_pool}
 use Rattle.pool_model.specs.Owned.{AlsoLonger, OwnedImages, OwnedPool}
-use Rattle.pool_model.specs.Pool.{History, Image, Pool, Volume, no_pool, put_sector}
+use Rattle.pool_model.specs.Pool.{History, Image, Pool, Side, Volume, Writing, no_pool, put_sector}
 use Rattle.pool_model.specs.Reading.{records_in}
 use Rattle.pool_model.specs.Same.{SamePool}
 use Rattle.pool_model.specs.Sizes.{Sizes}
@@ -249,6 +251,12 @@ OthersKnow =
     (up : Hosts) (d : Content) (p q : Pool) (h g : ℕ) (x : HostState) → Stands up d p → OwnedPool h up p q → g ≢ h → 1 ≤ g → is_up up g ≡ true
     → (q.master ≡ p.master) ⊎ MakesNone x.running → Knows g x p → Knows g x q
 
+-- and so do a manager's lists
+abbrev pub OthersKnowLists : Type 0
+OthersKnowLists =
+    (up : Hosts) (d : Content) (p q : Pool) (h g : ℕ) (m : Manager) (domains : List Id) (tasks : List (Id × TaskState)) → Stands up d p → OwnedPool h up p q
+    → g ≢ h → 1 ≤ g → is_up up g ≡ true → KnowsManager g m p → KnowsLists domains tasks m.begun p → KnowsLists domains tasks m.begun q
+
 -- and where another host goes down
 abbrev pub DownsKnow : Type 0
 DownsKnow = (up : Hosts) (d : Content) (p q : Pool) (h g : ℕ) (x : HostState) → Stands up d p → DownPool h p q → g ≢ h → Knows g x p → Knows g x q
@@ -256,3 +264,16 @@ DownsKnow = (up : Hosts) (d : Content) (p q : Pool) (h g : ℕ) (x : HostState) 
 -- a host that isn't up, and boots, knows what a booted host has to
 abbrev pub BootedKnow : Type 0
 BootedKnow = (up : Hosts) (d : Content) (p : Pool) (h : ℕ) → Stands up d p → is_up up h ≡ false → Knows h booted p
+
+-- ---- a host that goes down
+
+-- The host has no write under way: none is mixed into an image of which it is the guest, and none into a box.
+pub record IsQuiet (h : ℕ) (p : Pool) : Type 0 where
+  pub images : (sd i : Id) (m : Image) → IsGuest p sd i h → p.image sd i ≡ Some m → m.torn ≡ None
+  pub boxes : (side : Side) (sd : Id) (g : ℕ) (w : Writing) → Contains (p.box side sd g).writings w → w.host ≢ h
+
+-- where such a host goes down, and the others stay up, the disk that its crash leaves stands for the pool that it stood for
+abbrev pub QuietDowns : Type 0
+QuietDowns =
+    (up now : Hosts) (d e : Content) (p : Pool) (h : ℕ) → Stands up d p → DownLeaves d h e → ((g : ℕ) → g ≢ h → is_up up g ≡ true → is_up now g ≡ true)
+    → IsQuiet h p → Stands now e p × DownPool h p p

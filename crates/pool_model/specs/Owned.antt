@@ -19,7 +19,7 @@ use Rattle.lease_area.specs.declared.sector.Sector.{Sector}
 use Rattle.lease_area.specs.declared.sector.Sector.TheVariants.{Empty, Lease}
 use Rattle.chain_model.specs.Growth.{MayGrow}
 use Rattle.pool_model.specs.Leases.{Holds, IsUnnamed, Leads}
-use Rattle.pool_model.specs.Pool.{Image, Pool, Torn, Volume}
+use Rattle.pool_model.specs.Pool.{Image, Pool, Side, Torn, Volume, Writing}
 use Rattle.pool_model.specs.Rules.{IsListed, text_of}
 use Rattle.pool_model.specs.Standing.{HasDomainText, metadata_of}
 use Rattle.pool_model.specs.Verb.{Verb}
@@ -157,4 +157,5 @@ pub record OwnedPool (h : ℕ) (up : Hosts) (p q : Pool) : Type 0 where
   pub domains : ((sd : Id) → q.domain sd ≡ p.domain sd) ⊎ (Leads p h ⊎ (p.master ≡ None))
   pub lists : (sd : Id) (r : DomainRecord) → p.domain sd ≡ Some r → ((s : DomainRecord) × (q.domain sd ≡ Some s)) ⊎ IsLeftEmpty p sd
   pub texts : (sd : Id) → text_of p sd ≢ None → text_of q sd ≢ None
+  pub boxes : (side : Side) (sd : Id) (g : ℕ) (w : Writing) → Contains (q.box side sd g).writings w → Contains (p.box side sd g).writings w ⊎ (w.host ≡ h)
   pub images : OwnedImages h p q

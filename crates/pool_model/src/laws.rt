@@ -1,7 +1,7 @@
 // Laws of disks that stand for a pool.
 ghost use Rattle.pool_model.specs.Laws.{BeginsKeep, BootedAreUp, BootedKnow, BootsStand, DownsKnow, EmptyStands, FlatListsAreRead};
 ghost use Rattle.pool_model.specs.Laws.{GuestsHoldAlone, GuestsKeepImages, GuestsWriteAlone, ImageFrame};
-ghost use Rattle.pool_model.specs.Laws.{MadePoolsStand, NobodySettles, NobodyTears, OnePool, OthersKnow, RawBasesMean};
+ghost use Rattle.pool_model.specs.Laws.{MadePoolsStand, NobodySettles, NobodyTears, OnePool, OthersKnow, OthersKnowLists, QuietDowns, RawBasesMean};
 ghost use Rattle.pool_model.specs.Laws.{ReadingAgrees, RoleFrame, SettledFoldersMean, StandingIsCovered, StandingKeeps};
 
 /// A law: a disk that holds nothing stands for the pool that isn't made yet, whichever hosts are up.
@@ -98,6 +98,7 @@ pub fn booted_hosts_are_up()
 /// down, as long as the two don't make a pool at once.
 pub fn knowledge_survives_others()
     ensures owned { OthersKnow }
+    ensures lists { OthersKnowLists }
     ensures down { DownsKnow }
 {}
 
@@ -105,4 +106,9 @@ pub fn knowledge_survives_others()
 /// an image.
 pub fn booted_hosts_know()
     ensures { BootedKnow }
+{}
+
+/// A law: where a host goes down that has no write under way, the disk stands for the pool that it stood for.
+pub fn quiet_hosts_go_down()
+    ensures { QuietDowns }
 {}
