@@ -1,6 +1,6 @@
 -- A host without a write under way goes down: the disk stands for the pool that it stood for.
-use Rattle.std.proofs.Common.{◌≡◌, ◌≢◌, ◌⊎◌, ℕ, ◌+◌, ◌*◌, ◌==◌, not, Bool, true, false, List, [], ◌∷◌, Option, Some, None, Result, Ok, eq-eqb, refl, sym, ap, subst, ◌∙◌, inl, inr}
-use Rattle.std.proofs.lemmas.Bool.{eqb-true, false≢true}
+use Rattle.std.proofs.Common.{◌≡◌, ◌≢◌, ◌⊎◌, ℕ, ◌+◌, ◌*◌, ◌==◌, not, Bool, true, false, List, [], ◌∷◌, Option, Some, None, Ok, eq-eqb, refl, sym, ap, subst, ◌∙◌, inl, inr}
+use Rattle.std.proofs.lemmas.Bool.{eqb-true}
 use Rattle.std.specs.List.{filter}
 use Rattle.std.specs.Prelude.{Contains, if◌then◌else◌}
 use Rattle.sd_names.specs.UpSet.{Hosts, is_up}
@@ -10,17 +10,16 @@ use Rattle.sd_names.specs.declared.place.Dir.TheVariants as dir
 use Rattle.sd_names.specs.declared.place.Name.{Name}
 use Rattle.sd_names.specs.declared.place.Name.TheVariants as name
 use Rattle.sd_names.specs.declared.place.Place.{Place}
-use Rattle.shared_disk.specs.Content.{Content, File, Loose, unless_by, without}
+use Rattle.shared_disk.specs.Content.{Content, File, Loose, unless_by}
 use Rattle.shared_disk.specs.Crash.{DownLeaves, IsAlso, IsDownFile, IsFileOutcome, IsSettled, IsSettledFor}
 use Rattle.shared_disk.specs.NameCalls.{place_in}
 use Rattle.shared_disk.proofs.AtPlace.{also_some}
 use Rattle.shared_disk.proofs.Outcomes.{contains_here, contains_more, down_file, down_sector, nothing_in, unless_some, without_among, without_apart}
 use Rattle.shared_disk.proofs.Toolkit.{down_leaves_file, down_leaves_none}
-use Rattle.folder_layout.specs.Layout.{HoldsName}
 use Rattle.domain_meta.specs.declared.record.DomainRecord.{DomainRecord}
 use Rattle.task_store.specs.declared.task.Task.{Task}
 use Rattle.chain_model.specs.Folder.{Folder, IsFolderOutcome, folder_of}
-use Rattle.pool_model.specs.Downs.{AlsoChosen, DownBox, DownPool}
+use Rattle.pool_model.specs.Downs.{AlsoChosen, DownPool}
 use Rattle.pool_model.specs.Laws.{IsQuiet}
 use Rattle.pool_model.specs.Leases.{IsGuest}
 use Rattle.pool_model.specs.Pool.{Box, Image, Pool, Torn, Writing, inbox, outbox}

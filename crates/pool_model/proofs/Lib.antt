@@ -17,3 +17,4 @@ pub mod Booted
 pub mod Roles
 pub mod Stable
 pub mod Downs
+pub mod Making

@@ -33,7 +33,7 @@ empty_spelled = refl
 not_leased : (s : Sector) (r : LeaseRecord) → s ≡ Empty → s ≡ Lease r → ⊥
 not_leased s r e f = cc
 
-zero_leases : (s : ℕ → Sector) (o : Option File) → ((k : ℕ) → s k ≡ Empty) → IsZeroFile lease_sectors o → LeasesStand s o
+pub zero_leases : (s : ℕ → Sector) (o : Option File) → ((k : ℕ) → s k ≡ Empty) → IsZeroFile lease_sectors o → LeasesStand s o
 zero_leases s o empty zeros = record {
   file = zeros.file;
   there = zeros.there;
@@ -53,7 +53,7 @@ stored f k bytes loose fresh (inl e) = e
 stored f k bytes loose fresh (inr (inl at)) = absurd (nothing_in at.0 (subst (λ (ls : List Loose). Contains ls at.0) loose at.1))
 stored f k bytes loose fresh (inr (inr made)) = absurd (none_not_some f.fresh made.0.0 fresh made.0.1)
 
-zero_boxes : (up : Hosts) (b : ℕ → Box) (o : Option File) → ((h : ℕ) → b h ≡ empty_box) → IsZeroFile box_sectors o → BoxesStand up b o
+pub zero_boxes : (up : Hosts) (b : ℕ → Box) (o : Option File) → ((h : ℕ) → b h ≡ empty_box) → IsZeroFile box_sectors o → BoxesStand up b o
 zero_boxes up b o empty zeros = record {
   file = zeros.file;
   there = zeros.there;

@@ -1,5 +1,5 @@
 -- A move of sector 0 of the master leaves all that the disk has to say of the rest of the pool.
-use Rattle.std.proofs.Common.{◌≡◌, ◌≢◌, ◌⊎◌, ℕ, ◌<◌, ◌≤◌, ◌==◌, Bool, true, false, List, [], Option, Some, None, refl, sym, ap, subst, ◌∙◌, inl, inr, arith}
+use Rattle.std.proofs.Common.{◌≡◌, ◌≢◌, ◌⊎◌, ℕ, ◌<◌, ◌≤◌, ◌==◌, Bool, true, false, List, Option, Some, None, refl, sym, ap, subst, ◌∙◌, inl, inr, arith}
 use Rattle.std.proofs.lemmas.Bool.{eqb-true, false≢true}
 use Rattle.std.specs.Prelude.{Contains, if◌then◌else◌, Result, Ok}
 use Rattle.sd_names.specs.UpSet.{Hosts, is_up}
@@ -29,13 +29,13 @@ use Rattle.lease_area.specs.Sector.{IsRecord, IsSector, sector_bytes}
 use Rattle.lease_area.specs.declared.sector.Kind.TheVariants as kind
 use Rattle.lease_area.specs.declared.sector.LeaseRecord.{LeaseRecord}
 use Rattle.lease_area.specs.declared.sector.Sector.{Sector}
-use Rattle.lease_area.specs.declared.sector.Sector.TheVariants.{Empty, Lease}
+use Rattle.lease_area.specs.declared.sector.Sector.TheVariants.{Lease}
 use Rattle.lease_area.proofs.Moves.{not_zero}
 use Rattle.chain_model.proofs.Settled.{is_one}
 use Rattle.pool_model.specs.Laws.{AreAlive, LeavesImage, with_role}
 use Rattle.pool_model.specs.Leases.{Holds, NamesAt}
 use Rattle.pool_model.specs.Pool.{Box, Pool, at_number}
-use Rattle.pool_model.specs.Standing.{BoxesStand, DomainStands, HasDomainText, HasFolders, HasStored, ImageStands, IsAlive, IsBare, IsUnasked, IsZeroFile, LeasesStand, ListedStands, MasterLists, MasterStands, ShowsImage, Stands, StrayStands, TaskAt, TasksStand, file_in, lease_sectors}
+use Rattle.pool_model.specs.Standing.{BoxesStand, DomainStands, HasDomainText, HasFolders, HasStored, IsAlive, IsBare, IsUnasked, IsZeroFile, LeasesStand, MasterLists, MasterStands, ShowsImage, Stands, TaskAt, TasksStand, file_in, lease_sectors}
 use Rattle.pool_model.proofs.Frames.{image_stays}
 use Rattle.pool_model.specs.Owned.{IsLeasesChange, MayChange, OwnedChange, OwnedPool, OwnedSector}
 use Rattle.pool_model.specs.Verb.{Verb}
@@ -53,7 +53,7 @@ is_place p q = go (place_is p q) refl
     go true e = inl (place_is-same p q e)
     go false e = inr (λ same. false≢true (sym e ∙ (place_is-decides p q).1 same))
 
-one_dom_md : (a b : Id) → dir.DomMd a ≡ dir.DomMd b → a ≡ b
+pub one_dom_md : (a b : Id) → dir.DomMd a ≡ dir.DomMd b → a ≡ b
 one_dom_md a b e = cc
 
 image_apart : (sd i m : Id) → dir.Image sd i ≡ dir.DomMd m → ⊥

@@ -1,5 +1,5 @@
 -- What a host knows stays true beside other hosts.
-use Rattle.std.proofs.Common.{◌≡◌, ◌≢◌, ◌⊎◌, ℕ, ◌<◌, ◌≤◌, ◌==◌, ◌||◌, not, Bool, true, false, List, Option, Some, None, refl, sym, ap, subst, ◌∙◌, inl, inr, arith}
+use Rattle.std.proofs.Common.{◌≡◌, ◌≢◌, ◌⊎◌, ℕ, ◌≤◌, ◌==◌, ◌||◌, not, Bool, true, false, List, Option, Some, None, refl, sym, ap, subst, ◌∙◌, inl, inr, arith}
 use Rattle.std.proofs.lemmas.Bool.{eqb-true, false≢true}
 use Rattle.std.specs.Prelude.{MatchBool}
 use Rattle.sd_names.specs.UpSet.{Hosts, is_up}
@@ -8,23 +8,23 @@ use Rattle.sd_names.specs.declared.task_state.TaskState.{TaskState}
 use Rattle.shared_disk.specs.Content.{Content}
 use Rattle.domain_meta.specs.declared.record.DomainRecord.{DomainRecord}
 use Rattle.task_store.specs.declared.task.Task.{Task}
-use Rattle.lease_area.specs.Move.{IsEnded, IsFreed, IsTaken, LeaseMove, RoleMove, TaskMove, freed, is_open, made_by, may_take, owner_of, taken_by}
+use Rattle.lease_area.specs.Move.{IsFreed, IsTaken, RoleMove, TaskMove, freed, is_open, made_by, may_take, owner_of, taken_by}
 use Rattle.lease_area.specs.Record.{IsImageSlot}
 use Rattle.lease_area.specs.declared.sector.Kind.{Kind}
 use Rattle.lease_area.specs.declared.sector.Kind.TheVariants as kind
 use Rattle.lease_area.specs.declared.sector.LeaseRecord.{LeaseRecord}
 use Rattle.lease_area.specs.declared.sector.Sector.{Sector}
 use Rattle.lease_area.specs.declared.sector.Sector.TheVariants.{Empty, Lease}
-use Rattle.pool_model.specs.Downs.{DownImage, DownPool}
-use Rattle.pool_model.specs.Knows.{Knows, KnowsLists, KnowsManager, KnowsMaking, KnowsOpened, KnowsRole, KnowsTexts, KnowsTorn, Writes}
+use Rattle.pool_model.specs.Downs.{DownPool}
+use Rattle.pool_model.specs.Knows.{Knows, KnowsLists, KnowsManager, KnowsMaking, KnowsOpened, KnowsRole, KnowsTexts}
 use Rattle.pool_model.specs.Laws.{MakesNone}
 use Rattle.pool_model.specs.Leases.{Holds, IsGuest, IsTasked, Leads, NamesAt}
 use Rattle.pool_model.specs.Owned.{AlsoLonger, IsLeftEmpty, LaysAlike, OwnedPool, OwnedSector}
 use Rattle.pool_model.specs.Pool.{Image, Pool, Torn}
 use Rattle.pool_model.specs.Role.{Manager, Role, leads, outside}
-use Rattle.pool_model.specs.Rules.{IsHeldAt, text_by, text_of}
-use Rattle.pool_model.specs.Standing.{DomainStands, IsTornBy, Stands}
-use Rattle.pool_model.specs.State.{HostState, OpenAt, Opened, Running, booted, places}
+use Rattle.pool_model.specs.Rules.{text_by, text_of}
+use Rattle.pool_model.specs.Standing.{IsTornBy, Stands}
+use Rattle.pool_model.specs.State.{HostState, Opened, Running, booted}
 use Rattle.pool_model.specs.Tasks.{IsOpen}
 use Rattle.pool_model.proofs.Guests.{hold_alone}
 use Rattle.pool_model.proofs.OneDomain.{Said, bare_here}

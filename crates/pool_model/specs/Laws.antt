@@ -46,7 +46,7 @@ use Rattle.pool_model.specs.Pool.{History, Image, Pool, Side, Volume, Writing, n
 use Rattle.pool_model.specs.Reading.{records_in}
 use Rattle.pool_model.specs.Same.{SamePool}
 use Rattle.pool_model.specs.Sizes.{Sizes}
-use Rattle.pool_model.specs.Standing.{HasDomainText, HasFolders, ImageStands, IsAlive, IsVolumeName, IsZeroFile, Stands, box_sectors, file_in, lease_sectors, metadata_of}
+use Rattle.pool_model.specs.Standing.{HasDomainText, HasFolders, ImageStands, IsAlive, IsVolumeName, IsZeroFile, ShowsImage, Stands, box_sectors, file_in, lease_sectors, metadata_of}
 use Rattle.pool_model.specs.State.{HostState, Kept, Running, State, booted}
 use Rattle.pool_model.specs.Tasks.{IsMaking}
 
@@ -131,6 +131,39 @@ pub record HoldsMaster (up : Hosts) (d : Content) (r : DomainRecord) : Type 0 wh
 
 abbrev pub MadePoolsStand : Type 0
 MadePoolsStand = (up : Hosts) (d : Content) (r : DomainRecord) (history : History) → HoldsMaster up d r → Stands up d (master_pool r (no_pool history))
+
+-- ---- a pool that is being made
+
+-- From d to e nothing has changed but folders and files of the domain itself, and of no domain an image's folder.
+pub record ChangesDomain (up : Hosts) (d e : Content) (sd : Id) : Type 0 where
+  pub files : (at : Place) → at.dir ≢ dir.DomMd sd → e.file at ≡ d.file at
+  pub dirs : (a i : Id) → (e.dir (dir.Image a i) ≡ d.dir (dir.Image a i)) × (e.dir (dir.Removed a i) ≡ d.dir (dir.Removed a i))
+  pub own : (at : Place) (f : File) → at.dir ≡ dir.DomMd sd → e.file at ≡ Some f → IsAlive up f × HoldsName at.dir at.name
+
+-- as long as the domain has no text, the disk stands for the pool that isn't made
+abbrev pub MakingStands : Type 0
+MakingStands =
+    (up : Hosts) (d e : Content) (p : Pool) (sd : Id) → Stands up d p → p.master ≡ None → ChangesDomain up d e sd → e.file (metadata_of sd) ≡ None
+    → Stands up e p
+
+-- The domain's text is there, and reads as this master's, beside folders, leases and boxes of zeros; and no image has a folder.
+pub record HoldsNewMaster (e : Content) (r : DomainRecord) : Type 0 where
+  pub role : r.role ≡ Master
+  pub lists : r.domains ≡ r.sduuid ∷ []
+  pub version : (r.version ≡ 4) ⊎ (r.version ≡ 5)
+  pub text : HasDomainText e r.sduuid (Ok r)
+  pub folders : HasFolders e r.sduuid
+  pub leases : IsZeroFile lease_sectors (file_in r.sduuid name.Leases e)
+  pub inboxes : IsZeroFile box_sectors (file_in r.sduuid name.Inbox e)
+  pub outboxes : IsZeroFile box_sectors (file_in r.sduuid name.Outbox e)
+  pub unseen : ShowsImage e r.sduuid → ⊥
+  pub folder_of : (at : Place) (f : File) → e.file at ≡ Some f → e.dir at.dir ≡ true
+
+-- then it stands for the pool that was made
+abbrev pub PoolsAreMade : Type 0
+PoolsAreMade =
+    (up : Hosts) (d e : Content) (p : Pool) (r : DomainRecord) → Stands up d p → p.master ≡ None → ChangesDomain up d e r.sduuid → HoldsNewMaster e r
+    → Stands up e (master_pool r p)
 
 -- ---- what a made image means
 

@@ -1,7 +1,7 @@
 // Laws of disks that stand for a pool.
 ghost use Rattle.pool_model.specs.Laws.{BeginsKeep, BootedAreUp, BootedKnow, BootsStand, DownsKnow, EmptyStands, FlatListsAreRead};
 ghost use Rattle.pool_model.specs.Laws.{GuestsHoldAlone, GuestsKeepImages, GuestsWriteAlone, ImageFrame};
-ghost use Rattle.pool_model.specs.Laws.{MadePoolsStand, NobodySettles, NobodyTears, OnePool, OthersKnow, OthersKnowLists, QuietDowns, RawBasesMean};
+ghost use Rattle.pool_model.specs.Laws.{MadePoolsStand, MakingStands, NobodySettles, NobodyTears, OnePool, OthersKnow, OthersKnowLists, PoolsAreMade, QuietDowns, RawBasesMean};
 ghost use Rattle.pool_model.specs.Laws.{ReadingAgrees, RoleFrame, SettledFoldersMean, StandingIsCovered, StandingKeeps};
 
 /// A law: a disk that holds nothing stands for the pool that isn't made yet, whichever hosts are up.
@@ -45,6 +45,13 @@ pub fn flat_lists_are_read_through_chains()
 /// nothing of images and tasks, stands for the pool that was just made.
 pub fn made_pools_stand()
     ensures { MadePoolsStand }
+{}
+
+/// A law: where no pool is there and one host makes a domain, the disk stands for that pool as long as the domain has no
+/// text; and once its text is there beside its other files, it stands for the pool that was made.
+pub fn pools_are_made_by_one_text()
+    ensures before { MakingStands }
+    ensures made { PoolsAreMade }
 {}
 
 /// A law: a folder in which nothing is unsynced means an image where its files do as they stand; and so do the files
