@@ -1,0 +1,4 @@
+pub mod Barred
+pub mod Stopping
+pub mod Knowing
+pub mod Beginning
