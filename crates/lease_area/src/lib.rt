@@ -16,6 +16,7 @@ mod taking;
 
 pub use giving::{empty_task, free_task};
 pub use lease::Lease;
+pub use rights::is_open;
 pub use scan::Scan;
 pub use scanned::Scanned;
 pub use sector::{Kind, LeaseRecord, Sector};

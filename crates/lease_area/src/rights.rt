@@ -5,8 +5,8 @@ ghost use Rattle.lease_area.specs.Move.{is_open, may_take};
 use crate::Kind;
 use sd_names::{HostId, UpSet};
 
-/// Whether a host may take over from an owner: from nobody, itself, or a host that isn't up.
-pub(crate) fn is_open(up: &UpSet, host: HostId, owner: u8) -> bool
+/// Whether a host may take over from an owner, 0 to 250: from nobody, which is 0, from itself, or from a host that isn't up.
+pub fn is_open(up: &UpSet, host: HostId, owner: u8) -> bool
     requires { owner ≤ 250 }
     ensures { result ≡ is_open up.now host owner }
 {

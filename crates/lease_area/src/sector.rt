@@ -167,8 +167,8 @@ impl Sector {
         }
     }
 
-    /// The owner, 0 where the sector is empty.
-    pub(crate) fn owner(&self) -> u8
+    /// The number of the host that holds the sector, 0 where nobody does.
+    pub fn owner(&self) -> u8
         ensures value { result ≡ owner_of self.now }
         ensures fits { result ≤ 250 }
     {
@@ -178,8 +178,8 @@ impl Sector {
         }
     }
 
-    /// The version, 0 where the sector is empty.
-    pub(crate) fn version(&self) -> u64
+    /// How often the sector was taken, 0 where it is empty.
+    pub fn version(&self) -> u64
         ensures value { result ≡ version_of self.now }
         ensures fits { result < 2 ^ 63 }
     {

@@ -1,38 +1,15 @@
 // Reading sector 0 of the leases file, before it is taken.
-ghost use Rattle.std.specs.Prelude.{◌≡◌, ◌≤◌, ℕ, ◌+◌, ◌-◌, ◌^◌, min, IfErr, IfOk};
+ghost use Rattle.std.specs.Prelude.{◌≡◌, ℕ, ◌+◌, ◌-◌, ◌^◌, min, IfErr, IfOk};
 ghost use Rattle.shared_disk.specs.Calls.{Told};
 ghost use Rattle.shared_disk.specs.Refusal.{IsRisen};
 ghost use Rattle.shared_disk.specs.Step.{ResultCounts};
 ghost use Rattle.lease_area.specs.Hold.{IsRoleRefusal};
-ghost use Rattle.lease_area.specs.Move.{is_open, owner_of, version_of};
+ghost use Rattle.lease_area.specs.Move.{owner_of, version_of};
 ghost use Rattle.spm_role.specs.Look.{Looks, look_answer, sector_read};
 
-use lease_area::Sector;
+use lease_area::{Sector, is_open};
 use sd_names::{Dir, HostId, Id, Name, Place, Refusal, UpSet};
 use shared_disk::{SharedDisk, refusal_for};
-
-// Whether a host may take over from an owner: from nobody, itself, or a host that isn't up.
-fn is_open(up: &UpSet, host: HostId, owner: u8) -> bool
-    requires { owner ≤ 250 }
-    ensures { result ≡ is_open up.now host owner }
-{
-    match HostId::new(u64::from(owner)) {
-        Some(other) => other.get() == host.get() || !up.has(other),
-        None => true,
-    }
-}
-
-// The owner and the version of a sector; 0 and 0 where it is empty.
-fn named_in(sector: &Sector) -> (u8, u64)
-    ensures owner { result.0 ≡ owner_of sector.now }
-    ensures fits { result.0 ≤ 250 }
-    ensures version { result.1 ≡ version_of sector.now }
-{
-    match sector {
-        Sector::Lease(record) => (record.owner, record.version),
-        Sector::Empty => (0, 0),
-    }
-}
 
 // The sector that was read, where a whole one was.
 fn sector_read(count: usize, bytes: &[u8; 512]) -> Option<Sector>
@@ -62,7 +39,7 @@ fn asked_in(
         Some(sector) => sector,
         None => return Err(Refusal::LeaseCorrupt(0)),
     };
-    let (owner, version) = named_in(&sector);
+    let (owner, version) = (sector.owner(), sector.version());
     if !is_open(up, host, owner) {
         return Err(Refusal::SpmHeld(owner, version));
     }
