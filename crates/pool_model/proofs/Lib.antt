@@ -18,3 +18,4 @@ pub mod Roles
 pub mod Stable
 pub mod Downs
 pub mod Making
+pub mod Clearing

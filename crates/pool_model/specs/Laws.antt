@@ -1,5 +1,6 @@
 -- Laws of disks that stand for a pool, as statements.
-use Rattle.std.specs.Prelude.{◌≡◌, ◌≢◌, ◌⊎◌, Option, ℕ, ◌*◌, ◌<◌, ◌≤◌, true, false, List, [], ◌∷◌, length, Contains, Some, None, Ok}
+use Rattle.std.specs.Prelude.{◌≡◌, ◌≢◌, ◌⊎◌, Option, ℕ, ◌*◌, ◌<◌, ◌≤◌, true, false, List, [], ◌∷◌, length, Contains, not, Some, None, Ok}
+use Rattle.std.specs.List.{filter}
 use Rattle.sd_names.specs.UpSet.{Hosts, is_up}
 use Rattle.sd_names.specs.declared.id.Id.{Id}
 use Rattle.sd_names.specs.Id.{zero_id}
@@ -15,7 +16,9 @@ use Rattle.script_lines.specs.declared.event.Line.TheVariants as line
 use Rattle.script_lines.specs.declared.reply.Reply.TheVariants as reply
 use Rattle.shared_disk.specs.Content.{Content, File, IsEmpty, zero_sector}
 use Rattle.shared_disk.specs.Crash.{DownLeaves, IsAllSettled, IsAlone, IsOutcome, IsSettled}
+use Rattle.shared_disk.specs.Calls.{IsPut}
 use Rattle.shared_disk.specs.NameCalls.{place_in}
+use Rattle.shared_disk.specs.Places.{id_is}
 use Rattle.folder_layout.specs.Layout.{HoldsName}
 use Rattle.volume_meta.specs.Read.{read_volume}
 use Rattle.volume_meta.specs.declared.record.VolumeRecord.{VolumeRecord}
@@ -42,13 +45,13 @@ use Rattle.pool_model.specs.Lines.{Moves}
 use Rattle.pool_model.specs.Marks.{change, make_master}
 use Rattle.pool_model.specs.Made.{base_image, master_pool}
 use Rattle.pool_model.specs.Owned.{AlsoLonger, OwnedImages, OwnedPool}
-use Rattle.pool_model.specs.Pool.{History, Image, Pool, Side, Volume, Writing, no_pool, put_sector}
+use Rattle.pool_model.specs.Pool.{History, Image, Pool, Side, Volume, Writing, no_pool, put_sector, put_task}
 use Rattle.pool_model.specs.Reading.{records_in}
 use Rattle.pool_model.specs.Same.{SamePool}
 use Rattle.pool_model.specs.Sizes.{Sizes}
 use Rattle.pool_model.specs.Standing.{HasDomainText, HasFolders, ImageStands, IsAlive, IsVolumeName, IsZeroFile, ShowsImage, Stands, box_sectors, file_in, lease_sectors, metadata_of}
 use Rattle.pool_model.specs.State.{HostState, Kept, Running, State, booted}
-use Rattle.pool_model.specs.Tasks.{IsMaking}
+use Rattle.pool_model.specs.Tasks.{IsMaking, NoneOpen}
 
 -- ---- the empty disk
 
@@ -310,3 +313,15 @@ abbrev pub QuietDowns : Type 0
 QuietDowns =
     (up now : Hosts) (d e : Content) (p : Pool) (h : ℕ) → Stands up d p → DownLeaves d h e → ((g : ℕ) → g ≢ h → is_up up g ≡ true → is_up now g ≡ true)
     → IsQuiet h p → Stands now e p × DownPool h p p
+
+-- ---- a task goes
+
+-- tasks but for this one
+abbrev pub tasks_without : Id → List (Id × TaskState) → List (Id × TaskState)
+tasks_without t ts = filter (λ (a : Id × TaskState). not (id_is a.0 t)) ts
+
+-- Where no task is open and the file of one is removed, the disk stands for the pool without it.
+abbrev pub TasksGo : Type 0
+TasksGo =
+    (up : Hosts) (d e : Content) (p : Pool) (m t : Id) → Stands up d p → p.master ≡ Some m → NoneOpen p
+    → IsPut d (place_in (dir.Tasks m) (name.Task t)) None e → Stands up e (put_task p t None)

@@ -1,7 +1,7 @@
 // Laws of disks that stand for a pool.
 ghost use Rattle.pool_model.specs.Laws.{BeginsKeep, BootedAreUp, BootedKnow, BootsStand, DownsKnow, EmptyStands, FlatListsAreRead};
 ghost use Rattle.pool_model.specs.Laws.{GuestsHoldAlone, GuestsKeepImages, GuestsWriteAlone, ImageFrame};
-ghost use Rattle.pool_model.specs.Laws.{MadePoolsStand, MakingStands, NobodySettles, NobodyTears, OnePool, OthersKnow, OthersKnowLists, PoolsAreMade, QuietDowns, RawBasesMean};
+ghost use Rattle.pool_model.specs.Laws.{MadePoolsStand, MakingStands, NobodySettles, NobodyTears, OnePool, OthersKnow, OthersKnowLists, PoolsAreMade, QuietDowns, RawBasesMean, TasksGo};
 ghost use Rattle.pool_model.specs.Laws.{ReadingAgrees, RoleFrame, SettledFoldersMean, StandingIsCovered, StandingKeeps};
 
 /// A law: a disk that holds nothing stands for the pool that isn't made yet, whichever hosts are up.
@@ -118,4 +118,9 @@ pub fn booted_hosts_know()
 /// A law: where a host goes down that has no write under way, the disk stands for the pool that it stood for.
 pub fn quiet_hosts_go_down()
     ensures { QuietDowns }
+{}
+
+/// A law: where no task is open and the file of one is removed, the disk stands for the pool without it.
+pub fn tasks_go_by_their_files()
+    ensures { TasksGo }
 {}
