@@ -2,6 +2,9 @@ pub mod Chain
 pub mod Checking
 pub mod Fresh
 pub mod Knowing
+pub mod Layers
+pub mod Lending
+pub mod LendingChain
 pub mod Left
 pub mod Opening
 pub mod Reached

@@ -1,12 +1,17 @@
 // The chain of an image: its records, and the open volumes of the path.
-ghost use Rattle.std.specs.Prelude.{◌≡◌, ◌↔◌, ◌<◌, List, IfSome, IsTrue, length, option_copied, slice_get};
+ghost use Rattle.std.specs.Prelude.{◌≡◌, ◌↔◌, ◌<◌, List, IfSome, IsTrue, length, option_copied, slice_get, Some};
+ghost use Rattle.std.specs.Borrow.{sem};
 ghost use Rattle.sd_names.specs.declared.id.Id.{Id as AnyId};
 ghost use Rattle.chain_model.specs.Chain.{IsBelow};
 ghost use Rattle.chain_records.specs.Records.{records_in};
 ghost use Rattle.volume_chain.specs.Chain.{IsExpected, capacity_of, dir_in, kind_of, next_of, open_in, opened, path_in, place_in, reading_in, records_kept, target_of};
+ghost use Rattle.volume_chain.specs.Layers.{IsLayerAt};
+ghost use Rattle.volume_chain.specs.LendingChain.{LendsLayerAt};
+ghost use Rattle.volume_chain.specs.declared.volumes.OpenVolume.TheVariants.{Cow};
 
 use crate::volumes::{OpenVolume, OpenVolumes};
 use chain_records::{VolumeList, VolumeRecords};
+use qcow_layer::Layer;
 use sd_names::{Dir, Format, Id, Name, Place};
 use volume_meta::VolumeRecord;
 
@@ -93,6 +98,15 @@ impl Chain {
         self.volumes.as_slice()
     }
 
+    /// The layer of the volume of the path with this index, lent to be changed: all else stays as it was.
+    pub fn layer_mut(&mut self, index: usize) -> &mut Layer
+        requires { IsLayerAt (open_in self.old) index }
+        ensures* writes { sem 𝓛 (LendsLayerAt self.entry index result) }
+        ensures value { slice_get (open_in self.old) index ≡ Some (Cow result.now) }
+    {
+        self.volumes.layer_mut(index)
+    }
+
     // The image's folder.
     fn dir(&self) -> Dir
         ensures { result ≡ dir_in self.now.target }
@@ -100,9 +114,9 @@ impl Chain {
         Dir::Image(self.target.sd, self.target.image)
     }
 
-    // The place of a volume's file.
-    pub(crate) fn place(&self, id: &Id) -> Place
-        ensures { result ≡ place_in self.now.target id.now }
+    /// The place of a volume's file.
+    pub fn place(&self, id: &Id) -> Place
+        ensures { result ≡ place_in (target_of self.now) id.now }
     {
         Place {
             dir: self.dir(),

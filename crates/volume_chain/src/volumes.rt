@@ -1,5 +1,9 @@
 // The volumes of a path that are open.
-ghost use Rattle.std.specs.Prelude.{◌≡◌, ◌<◌, ◌≤◌, ◌++◌, [], ◌∷◌, length, IfOk};
+ghost use Rattle.std.specs.Prelude.{◌≡◌, ◌<◌, ◌≤◌, ◌++◌, [], ◌∷◌, length, slice_get, IfOk, Some};
+ghost use Rattle.std.specs.Borrow.{sem};
+ghost use Rattle.volume_chain.specs.Layers.{IsLayer, IsLayerAt};
+ghost use Rattle.volume_chain.specs.Lending.{LendsLayer, LendsLayerOf, LendsVolume};
+ghost use Rattle.volume_chain.specs.declared.volumes.OpenVolume.TheVariants.{Cow};
 
 use qcow_layer::Layer;
 use sd_names::NoMemory;
@@ -16,6 +20,20 @@ pub enum OpenVolume {
     Raw(u64),
     /// A layer, which was found sound.
     Cow(Layer),
+}
+
+impl OpenVolume {
+    // The layer, lent to be changed.
+    fn layer_mut(&mut self) -> &mut Layer
+        requires { IsLayer self.old }
+        ensures* writes { sem 𝓛 (LendsLayer self.entry result) }
+        ensures value { self.old ≡ Cow result.now }
+    {
+        match self {
+            OpenVolume::Cow(layer) => layer,
+            OpenVolume::Raw(_) => unreachable!(),
+        }
+    }
 }
 
 /// The first volumes of a path, open, in its order. All room is taken when it is made. A contract sees the list.
@@ -52,6 +70,25 @@ impl OpenVolumes {
         ensures { self.new ≡ self.old ++ volume ∷ [] }
     {
         self.volumes.push_reserved(volume)
+    }
+
+    // The volume at an index, lent to be changed.
+    fn at_mut(&mut self, index: usize) -> &mut OpenVolume
+        requires { index < length self.old }
+        ensures* writes { sem 𝓛 (LendsVolume self.entry index result) }
+        ensures value { slice_get self.old index ≡ Some result.now }
+    {
+        &mut self.volumes[index]
+    }
+
+    /// The layer of the volume at an index, lent to be changed.
+    pub(crate) fn layer_mut(&mut self, index: usize) -> &mut Layer
+        requires { IsLayerAt self.old index }
+        ensures* writes { sem 𝓛 (LendsLayerOf self.entry index result) }
+        ensures value { slice_get self.old index ≡ Some (Cow result.now) }
+    {
+        let volume = self.at_mut(index);
+        volume.layer_mut()
     }
 
     /// The volumes, lent.
