@@ -24,7 +24,7 @@ use Rattle.chain_records.proofs.Settled.{counting_kept, counting_passed, legal_w
 
 -- ---- one volume
 
-passed_alike : (r s : Records) (v : Id) (vs : List Id) → (s v ≡ r v) ⊎ IsRewritten r v (r v) (s v) → IsBelow r v vs → is_passed s v ≡ is_passed r v
+pub passed_alike : (r s : Records) (v : Id) (vs : List Id) → (s v ≡ r v) ⊎ IsRewritten r v (r v) (s v) → IsBelow r v vs → is_passed s v ≡ is_passed r v
 passed_alike r s v vs (inl same) b = ap (λ (o : Option VolumeRecord). holds_in passed_in o) same
 passed_alike r s v vs (inr is) b = passed_rewritten r s v vs is b
 

@@ -20,7 +20,7 @@ use Rattle.chain_records.proofs.Settled.{parent_stays}
 abbrev NamesUp : Records → Id → Id → Type 0
 NamesUp r v up = (vs : List Id) → IsBelow r v vs → up ≡ unwrap_or (up_of r vs) zero_id
 
-named : (r : Records) (u up : Id) (o a : Option VolumeRecord) → NamesUp r u up → (a ≡ o) ⊎ IsRewritten r u o a → IsRewritten r u o (option_map (naming up) a)
+pub named : (r : Records) (u up : Id) (o a : Option VolumeRecord) → NamesUp r u up → (a ≡ o) ⊎ IsRewritten r u o a → IsRewritten r u o (option_map (naming up) a)
 named r u up None a is (inl same) = ap (λ (z : Option VolumeRecord). option_map (naming up) z) same
 named r u up None a is (inr done) = ap (λ (z : Option VolumeRecord). option_map (naming up) z) done
 named r u up (Some x) a is (inl same) = (up, x.voltype, ap (λ (z : Option VolumeRecord). option_map (naming up) z) same, is)
@@ -34,7 +34,7 @@ parent_step r s v up are is u = go (id_is v u) refl (are u)
     go false t now = now
     go true t now = inr (named r u up (r u) (s u) (subst (λ (w : Id). NamesUp r w up) (id_is-same v u t) is) now)
 
-retyped : (r : Records) (u : Id) (t : VolType) (o a : Option VolumeRecord) → IsRewritten r u o a → IsRewritten r u o (option_map (typed t) a)
+pub retyped : (r : Records) (u : Id) (t : VolType) (o a : Option VolumeRecord) → IsRewritten r u o a → IsRewritten r u o (option_map (typed t) a)
 retyped r u t None a done = ap (λ (z : Option VolumeRecord). option_map (typed t) z) done
 retyped r u t (Some x) a done = (done.0, t, ap (λ (z : Option VolumeRecord). option_map (typed t) z) done.2, done.3)
 
