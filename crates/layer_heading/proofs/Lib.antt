@@ -5,6 +5,7 @@ pub mod Changes
 pub mod Parts
 pub mod Writes
 pub mod Names
+pub mod Fields
 pub mod Cleared
 pub mod Files
 pub mod Layers
