@@ -14,6 +14,7 @@ mod looks;
 mod opens;
 mod placed;
 mod rebasing;
+mod sizing;
 
 const VOLUME: Id = Id([0, 0, 0, 0, 0, 0, 0x40, 0, 0x80, 0, 0, 0, 0, 0, 1, 2]);
 

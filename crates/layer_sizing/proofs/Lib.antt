@@ -1,0 +1,12 @@
+pub mod Spans
+pub mod Fresh
+pub mod Heads
+pub mod Files
+pub mod Blanked
+pub mod Ranges
+pub mod Behind
+pub mod Blanking
+pub mod Steps
+pub mod Zeros
+pub mod Begins
+pub mod Survives

@@ -1,0 +1,4 @@
+pub mod Sized
+pub mod Blanks
+pub mod Stages
+pub mod Sizing
