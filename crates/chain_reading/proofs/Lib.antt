@@ -1,0 +1,15 @@
+pub mod Sectors
+pub mod Runs
+pub mod Standing
+pub mod Numbers
+pub mod Owning
+pub mod Looks
+pub mod Paths
+pub mod Falling
+pub mod Fewer
+pub mod Moving
+pub mod Clusters
+pub mod Steps
+pub mod Survives
+pub mod Lent
+pub mod Places
