@@ -1,6 +1,8 @@
-//! Tests of making a pool and of its manager's role, over disks in memory.
+//! Tests of making a pool, of its manager's role and of its hosts, over disks in memory.
 #![tactic(auto)]
 
+#[cfg(test)]
+mod host;
 #[cfg(test)]
 mod making;
 #[cfg(test)]
