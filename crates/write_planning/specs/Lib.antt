@@ -1,0 +1,4 @@
+pub mod Linked
+pub mod Part
+pub mod Plan
+pub mod Span
