@@ -44,7 +44,7 @@ laid_outcomes l flats new F G below each comes holds laid O out =
 abbrev with_volume : Id → File → Folder → Folder
 with_volume v g F name = if name_is name (Volume v) then Some g else F name
 
-some_outcome : (o p : Option File) (f : File) → o ≡ Some f → IsAlso IsFileOutcome o p → (g : File) × (p ≡ Some g) × IsFileOutcome f g
+pub some_outcome : (o p : Option File) (f : File) → o ≡ Some f → IsAlso IsFileOutcome o p → (g : File) × (p ≡ Some g) × IsFileOutcome f g
 some_outcome o None f e h = absurd (subst (λ (q : Option File). IsAlso IsFileOutcome q None) e h)
 some_outcome o (Some g) f e h = (g, refl, subst (λ (q : Option File). IsAlso IsFileOutcome q (Some g)) e h)
 

@@ -1,0 +1,9 @@
+//! How a part that is written over a layer's volume comes into the layer's file: laws as functions without code.
+#![tactic(auto)]
+
+mod laws;
+
+pub use laws::{
+    data_of_the_part_is_held, held_files_are_written, held_parts_stay_held,
+    linked_files_are_written, volumes_hold_the_part, written_pieces_are_of_the_part,
+};
