@@ -27,7 +27,7 @@ use Rattle.part_laws.specs.Steps.{AreLayers, ComeAlike, HoldsIn, IsPieceAt, Stan
 one_record : (l : Laying) (x y : VolumeRecord) → l.records l.volume ≡ Some x → l.records l.volume ≡ Some y → x ≡ y
 one_record l x y a b = cc
 
-held_by : (l : Laying) (x : VolumeRecord) (g g' : File) → l.records l.volume ≡ Some x → ((k : ℕ) → k < sectors_of x → IsHeld l k (own_in x g k) (own_in x g' k))
+pub held_by : (l : Laying) (x : VolumeRecord) (g g' : File) → l.records l.volume ≡ Some x → ((k : ℕ) → k < sectors_of x → IsHeld l k (own_in x g k) (own_in x g' k))
     → (y : VolumeRecord) → l.records l.volume ≡ Some y → (k : ℕ) → k < sectors_of y → IsHeld l k (own_in y g k) (own_in y g' k)
 held_by l x g g' is held y also = subst (λ (z : VolumeRecord). (k : ℕ) → k < sectors_of z → IsHeld l k (own_in z g k) (own_in z g' k)) (one_record l x y is also) held
 

@@ -1,9 +1,11 @@
 // Laws of a part that is laid over a layer's volume, by changes of the layer's file.
 ghost use Rattle.std.specs.Prelude.{◌≡◌, ◌⊎◌, ℕ, ◌+◌, ◌^◌, ◌≤◌, ◌<◌, Bool, true, List, Option, Some};
 ghost use Rattle.sd_names.specs.declared.place.Name.TheVariants.{Volume};
-ghost use Rattle.shared_disk.specs.Calls.{sectors_in};
+ghost use Rattle.sd_names.specs.declared.kinds.Format.TheVariants.{Cow, Raw};
+ghost use Rattle.shared_disk.specs.Calls.{sectors_in, wrote};
 ghost use Rattle.shared_disk.specs.Content.{File};
 ghost use Rattle.shared_disk.specs.Crash.{OnEach};
+ghost use Rattle.shared_disk.specs.WellFormed.{IsWellFormedFile};
 ghost use Rattle.qcow_format.specs.declared.entry.Entry.TheVariants.{Data};
 ghost use Rattle.qcow_format.specs.declared.header.Header.{Header};
 ghost use Rattle.volume_meta.specs.declared.record.VolumeRecord.{VolumeRecord};
@@ -11,6 +13,9 @@ ghost use Rattle.image_model.specs.File.{sector_in};
 ghost use Rattle.image_model.specs.Layer.{entry_at};
 ghost use Rattle.layer_laws.specs.Laws.{SameContent, layer};
 ghost use Rattle.link_laws.specs.Links.{Linked};
+ghost use Rattle.qcow_layer.specs.Opening.{capacity_kept, header_kept};
+ghost use Rattle.qcow_layer.specs.declared.layer.Layer.{Layer};
+ghost use Rattle.layer_writing.specs.Writer.{KnowsWriter};
 ghost use Rattle.layer_writing.specs.Holding.{ComesBy, HoldSame, IsInCluster, IsRewritten, on_medium};
 ghost use Rattle.chain_model.specs.Folder.{Folder, OnEachFolder, volumes_of};
 ghost use Rattle.chain_model.specs.Own.{own_in, sectors_of};
@@ -55,4 +60,17 @@ pub fn held_parts_stay_held()
 pub fn volumes_hold_the_part()
     ensures { (l : Laying) (x : VolumeRecord) (among : ℕ → Bool) (f : File) (F : Folder) → l.records l.volume ≡ Some x → F (Volume l.volume) ≡ Some f → ((k : ℕ) → IsInPart l.part k → among k ≡ true)
         → OnEach f (HoldsIn l x among) → OnEachFolder F (λ O. HoldsPart l (volumes_of O)) }
+{}
+
+/// A law: a file that the layer's writer knows is the volume's layer on each outcome, as is asked above.
+pub fn known_files_are_layers()
+    ensures { (x : VolumeRecord) (w : Layer) (host : ℕ) (f : File) → KnowsWriter w host f → IsWellFormedFile f → x.format ≡ Cow → x.capacity ≡ capacity_kept w → AreLayers x (header_kept w) f }
+{}
+
+/// A law: the write of a part to a raw volume's file, wholly or in part, is one step of the write, and a sector of the part
+/// is held where it stands in the file.
+pub fn raw_files_are_written()
+    ensures written { (l : Laying) (x : VolumeRecord) (did : ℕ → Bool) (host : ℕ) (f : File) → l.records l.volume ≡ Some x → x.format ≡ Raw → l.part.at + sectors_in l.part.bytes ≤ f.size
+        → FileWritten l f (wrote did host l.part.at l.part.bytes f) }
+    ensures held { (l : Laying) (x : VolumeRecord) (f : File) (k : ℕ) → x.format ≡ Raw → k < sectors_of x → k < f.size → f.stable k ≡ sector_in_part l.part k → own_in x f k ≡ Some (sector_in_part l.part k) }
 {}
