@@ -1,0 +1,7 @@
+//! Looking up each cluster of the virtual disk that a part meets, before the part is written.
+#![tactic(auto)]
+
+pub mod laws;
+mod survey;
+
+pub use survey::Survey;
