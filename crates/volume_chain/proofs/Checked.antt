@@ -8,6 +8,7 @@ use Rattle.sd_names.specs.declared.id.Id.{Id}
 use Rattle.sd_names.specs.declared.refusal.Refusal.{Refusal}
 use Rattle.sd_names.specs.declared.refusal.Refusal.TheVariants.{ChainTooLong, MetaCorrupt, NoReadingVolume, WrongParent}
 use Rattle.sd_names.specs.declared.turn.Turn.TheVariants.{Ended}
+use Rattle.shared_disk.specs.Content.{Content}
 use Rattle.shared_disk.specs.Step.{TurnFaults}
 use Rattle.volume_meta.specs.declared.record.VolumeRecord.{VolumeRecord}
 use Rattle.chain_model.specs.Chain.{IsBelow}
@@ -55,8 +56,8 @@ pub records_number : (r : Records) (cs : List Check) (e : Refusal) → FirstIs r
 records_number r cs e f = by_records IsRecordRefusal (λ v p. (3, omega arith, refl)) (4, omega arith, refl) (λ v k. (2, omega arith, refl)) (0, omega arith, refl) r cs e f
 
 -- none says that a file is gone
-pub records_no_file : (r : Records) (cs : List Check) (e : Refusal) → FirstIs r cs (Some e) → IsNoFile e
-records_no_file r cs e f = by_records IsNoFile (λ v p. tt) tt (λ v k. tt) tt r cs e f
+pub records_no_file : (s : Stage) (d : Content) (r : Records) (cs : List Check) (e : Refusal) → FirstIs r cs (Some e) → IsNoFile s d e
+records_no_file s d r cs e f = by_records (IsNoFile s d) (λ v p. tt) tt (λ v k. tt) tt r cs e f
 
 -- ---- what a header may name
 

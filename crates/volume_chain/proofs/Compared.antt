@@ -35,6 +35,7 @@ use Rattle.volume_chain.specs.Checking.{StageTurn}
 use Rattle.volume_chain.specs.Knowing.{IsNextLayer, KnowsLayerFile, KnowsPath, StageKnows}
 use Rattle.volume_chain.specs.Stages.{IsNamed, IsNoFile, IsWrongParent, StageAfter, StageSteps}
 use Rattle.volume_chain.specs.declared.chain.Chain.{Chain}
+use Rattle.volume_chain.specs.declared.stages.Stage.{Stage}
 use Rattle.volume_chain.specs.declared.stages.Stage.TheVariants as stages
 use Rattle.volume_chain.specs.declared.volumes.OpenVolume.TheVariants.{Cow}
 use Rattle.volume_chain.proofs.Named.{expected_passes, named_is, sound_passes, unexpected_refuses}
@@ -42,14 +43,14 @@ use Rattle.volume_chain.proofs.Opens.{path_more}
 use Rattle.volume_chain.proofs.Refused.{path_refused}
 use Rattle.volume_chain.proofs.Steps.{same_steps}
 
-parent_no_file : (e : Refusal) → IsWrongParent e → IsNoFile e
-parent_no_file (WrongParent v named) is = tt
-parent_no_file _ is = absurd is
+parent_no_file : (s : Stage) (d : Content) (e : Refusal) → IsWrongParent e → IsNoFile s d e
+parent_no_file s d (WrongParent v named) is = tt
+parent_no_file s d _ is = absurd is
 
-gone : (turn : StageTurn) → EndsOnlyBy IsWrongParent turn → MatchTurn turn (λ _. Unit {0}) (λ _. Unit {0}) (λ _ refusal. IsNoFile refusal)
-gone (More s) ends = tt
-gone (Done c) ends = tt
-gone (Ended b e) ends = parent_no_file e ends
+gone : (s : Stage) (d : Content) (turn : StageTurn) → EndsOnlyBy IsWrongParent turn → MatchTurn turn (λ _. Unit {0}) (λ _. Unit {0}) (λ _ refusal. IsNoFile s d refusal)
+gone s d (More next) ends = tt
+gone s d (Done c) ends = tt
+gone s d (Ended b e) ends = parent_no_file s d e ends
 
 -- the layer of the path's next volume, opened from a file that is known
 module _ (c : Chain) (o : Opening) (l : layers.Layer) (host : ℕ) (x : Volumes) (d : Content) (same : layer.target_kept l ≡ layer.target_of o)
@@ -159,5 +160,5 @@ module _ (c : Chain) (o : Opening) (l : layers.Layer) (host : ℕ) (x : Volumes)
 pub named_steps : (c : Chain) (o : Opening) (l : layers.Layer) (host : ℕ) (turn : StageTurn) (d e : Content) → layer.target_kept l ≡ layer.target_of o → layer.OpensOn o host (Done l) d e
     → IsNamed c l turn → EndsOnlyBy IsWrongParent turn → StageSteps (stages.Layer c o) host turn d e
 named_steps c o l host turn d e same on named ends =
-    same_steps (stages.Layer c o) host turn d e on.same (gone turn ends)
+    same_steps (stages.Layer c o) host turn d e on.same (gone (stages.Layer c o) d turn ends)
     (λ x knows. after_named c o l host x d same knows.0 knows.1 knows.2 (on.after knows.2.0.size knows.2.0.stable knows.2.2) turn named)

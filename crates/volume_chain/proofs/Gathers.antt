@@ -28,13 +28,15 @@ use Rattle.chain_gathering.specs.Steps.{Gathers, IsKeptFile}
 use Rattle.chain_gathering.specs.Steps as steps
 use Rattle.chain_gathering.specs.declared.gathered.Gathered.{Gathered}
 use Rattle.chain_gathering.specs.declared.gathering.Gathering.{Gathering}
-use Rattle.chain_gathering.specs.declared.names.VolumeName.TheVariants.{Data}
+use Rattle.chain_gathering.specs.declared.stages.Stage as gathering_stages
+use Rattle.chain_gathering.specs.declared.stages.Stage.TheVariants as gathering_stage
+use Rattle.chain_gathering.specs.declared.names.VolumeName.TheVariants.{Data, Text}
 use Rattle.chain_gathering.proofs.Records.{gathered_read}
 use Rattle.volume_chain.specs.Chain.{dir_in, image_in, place_in}
 use Rattle.volume_chain.specs.Checking.{IsChecked, IsCheckedBy, StageTurn, chain_along}
 use Rattle.volume_chain.specs.Knowing.{HaveLengths, IsOfImage, StageKnows}
 use Rattle.volume_chain.specs.Reached.{LacksMemory}
-use Rattle.volume_chain.specs.Stages.{IsNoFile, IsRefused, StageAfter, StageSteps}
+use Rattle.volume_chain.specs.Stages.{IsMissing, IsNoFile, IsRefused, StageAfter, StageSteps}
 use Rattle.volume_chain.specs.declared.stages.Stage.TheVariants as stages
 use Rattle.volume_chain.specs.declared.chain.Target.{Target}
 use Rattle.volume_chain.specs.declared.volumes.OpenVolume.{OpenVolume}
@@ -64,7 +66,7 @@ still_lengths t g host turn d e of on lengths v f there =
 
 -- a step of the gathering keeps what it may, whatever the turn is that follows
 framed : (t : Target) (vols : List OpenVolume) (g : Gathering) (host : ℕ) (told : GatheringTurn) (turn : StageTurn) (d e : Content) → Gathers g host told d e
-    → MatchTurn turn (λ _. Unit {0}) (λ _. Unit {0}) (λ _ refusal. IsNoFile refusal)
+    → MatchTurn turn (λ _. Unit {0}) (λ _. Unit {0}) (λ _ refusal. IsNoFile (stages.Gathering t vols g) d refusal)
     → ((x : Volumes) → StageKnows (stages.Gathering t vols g) host x d → StageAfter t host (volumes_in (dir_in t) e) turn e) → StageSteps (stages.Gathering t vols g) host turn d e
 framed t vols g host told turn d e on gone after = record {
   dirs = on.dirs;
@@ -109,14 +111,19 @@ refused_of t g host d e (MetaCorrupt v fault) of may knows on is = inr (settled_
 refused_of t g host d e OutOfMemory of may knows on is = inr (settled_of t g e of is.0, inl (lacks_of t g e of (gather_lacks g.target g.kept host d e g.stage may knows on.files is.1)))
 refused_of t g host d e _ of may knows on is = absurd is
 
-no_file : (g : Gathering) (refusal : Refusal) (d : Content) → steps.IsGone g.target g.kept g.stage refusal d → IsNoFile refusal
-no_file g (Vanished a) d gone = gone.0
-no_file g _ d gone = tt
+missing_of : (g : Gathering) (stage : gathering_stages.Stage) (d : Content) → steps.IsGoneAt g.target g.kept stage d → IsMissing (gather.folder g) d
+missing_of g (gathering_stage.Listing seen) d gone = inl gone
+missing_of g (gathering_stage.Syncing seen o) d gone = inr (o, gone)
+missing_of g gathering_stage.Reading d gone = inr (Text gone.0, gone.2)
+
+no_file : (t : Target) (vols : List OpenVolume) (g : Gathering) (refusal : Refusal) (d : Content) → steps.IsGone g.target g.kept g.stage refusal d → IsNoFile (stages.Gathering t vols g) d refusal
+no_file t vols g (Vanished a) d gone = (gone.0, λ shaped. subst (λ (q : Dir). IsMissing q d) shaped.0.folder (missing_of g g.stage d gone.1))
+no_file t vols g _ d gone = tt
 
 pub ended_gathers : (t : Target) (vols : List OpenVolume) (g : Gathering) (host : ℕ) (refusal : Refusal) (d e : Content) → gather.MayRefuse g refusal → Gathers g host (Ended tt refusal) d e
     → StageSteps (stages.Gathering t vols g) host (Ended tt refusal) d e
 ended_gathers t vols g host refusal d e may on =
-    framed t vols g host (Ended tt refusal) (Ended tt refusal) d e on (no_file g refusal d on.gone) (λ x knows. refused_of t g host d e refusal knows.2 may knows.0 on (on.after knows.0))
+    framed t vols g host (Ended tt refusal) (Ended tt refusal) d e on (no_file t vols g refusal d on.gone) (λ x knows. refused_of t g host d e refusal knows.2 may knows.0 on (on.after knows.0))
 
 -- ---- all was gathered, and the records are checked
 
@@ -144,12 +151,12 @@ pub done_gathers : (t : Target) (vols : List OpenVolume) (g : Gathering) (kept :
     → IsChecked t kept.records vols turn → StageSteps (stages.Gathering t vols g) host turn d e
 done_gathers t vols g kept host turn d e on checked = framed t vols g host (Done kept) turn d e on (gone (first_missing kept.records) turn checked) after
   where
-    gone : (o : Option Id) (turn : StageTurn) → IsCheckedBy t kept.records vols turn o → MatchTurn turn (λ _. Unit {0}) (λ _. Unit {0}) (λ _ refusal. IsNoFile refusal)
-    gone (Some v) turn is = subst (λ (u : StageTurn). MatchTurn u (λ _. Unit {0}) (λ _. Unit {0}) (λ _ refusal. IsNoFile refusal)) (sym is) tt
+    gone : (o : Option Id) (turn : StageTurn) → IsCheckedBy t kept.records vols turn o → MatchTurn turn (λ _. Unit {0}) (λ _. Unit {0}) (λ _ refusal. IsNoFile (stages.Gathering t vols g) d refusal)
+    gone (Some v) turn is = subst (λ (u : StageTurn). MatchTurn u (λ _. Unit {0}) (λ _. Unit {0}) (λ _ refusal. IsNoFile (stages.Gathering t vols g) d refusal)) (sym is) tt
     gone None turn (inl is) =
-        subst (λ (u : StageTurn). MatchTurn u (λ _. Unit {0}) (λ _. Unit {0}) (λ _ refusal. IsNoFile refusal)) (sym is.2)
-        (records_no_file (records_in kept.records) (record_checks (ids_of kept.records)) is.0 is.1)
-    gone None turn (inr is) = subst (λ (u : StageTurn). MatchTurn u (λ _. Unit {0}) (λ _. Unit {0}) (λ _ refusal. IsNoFile refusal)) (sym is.3) tt
+        subst (λ (u : StageTurn). MatchTurn u (λ _. Unit {0}) (λ _. Unit {0}) (λ _ refusal. IsNoFile (stages.Gathering t vols g) d refusal)) (sym is.2)
+        (records_no_file (stages.Gathering t vols g) d (records_in kept.records) (record_checks (ids_of kept.records)) is.0 is.1)
+    gone None turn (inr is) = subst (λ (u : StageTurn). MatchTurn u (λ _. Unit {0}) (λ _. Unit {0}) (λ _ refusal. IsNoFile (stages.Gathering t vols g) d refusal)) (sym is.3) tt
 
     y : Volumes
     y = volumes_in (dir_in t) e

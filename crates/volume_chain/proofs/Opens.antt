@@ -1,5 +1,5 @@
 -- The steps along a path that begin or end: a raw volume's length, the begin of a layer, and the end of the path.
-use Rattle.std.proofs.Common.{◌≡◌, ℕ, ◌+◌, ◌*◌, List, [], ◌∷◌, length, drop, Option, Some, None, Result, Ok, Err, refl, sym, ap, ◌∙◌, subst, inl, arith, length-append}
+use Rattle.std.proofs.Common.{◌≡◌, ℕ, ◌+◌, ◌*◌, List, [], ◌∷◌, length, drop, Option, Some, None, Result, Ok, Err, refl, sym, ap, ◌∙◌, subst, inl, inr, arith, length-append}
 use Rattle.std.specs.List.{Contains}
 use Rattle.sd_names.specs.declared.absence.Absence.TheVariants as absence
 use Rattle.sd_names.specs.declared.id.Id.{Id}
@@ -120,7 +120,7 @@ raw_steps c v host faults turn d e k is = go is.0 is.1 is.2
         (same_steps (stages.Along c) host (Ended tt (DiskFault faults)) d e has tt (λ x knows. inl (faults, refl)))
     go (Err NoFile) has follows =
         subst (λ (t : StageTurn). StageSteps (stages.Along c) host t d e) (sym follows)
-        (same_steps (stages.Along c) host (Ended tt (Vanished absence.NoFile)) d e has.0 refl (λ x knows. absurd (gone x has.1 knows)))
+        (same_steps (stages.Along c) host (Ended tt (Vanished absence.NoFile)) d e has.0 (refl, λ shaped. inr (Data v, has.1)) (λ x knows. absurd (gone x has.1 knows)))
     go (Err Exists) has follows = absurd has
     go (Err OutOfFile) has follows = absurd has
     go (Err NotEmpty) has follows = absurd has
@@ -161,13 +161,14 @@ begin_steps c v capacity host turn d k begins =
 pub end_steps : (c : Chain) (host : ℕ) (d : Content) → kind_of (records_in c.records) (next_of c) ≡ None → StageSteps (stages.Along c) host (Done c) d d
 end_steps c host d none = same_steps (stages.Along c) host (Done c) d d refl tt (λ x knows. is_open x knows)
   where
-    is_open : (x : Volumes) → KnowsPath c host x (drop (length c.volumes) c.path) d → IsOpen c host d
+    is_open : (x : Volumes) → KnowsPath c host x (drop (length c.volumes) c.path) d → IsOpen c host x d
     is_open x knows = record {
       settled = knows.settled;
       volume = knows.shape.reading.0;
       below = knows.shape.reading.1;
       openable = openable_kept i x y knows.shape.reading.0 knows.shape.reading.1 knows.longer (opened_by_records i x c.records knows.shape.reading.0 knows.shape.reading.1 knows.shown knows.shape.checked knows.shape.reading.2 fine);
       path = knows.shape.reading.3 ∙ ap (λ (r : Records). path_of r knows.shape.reading.0 knows.shape.reading.1) (sym (records_same i x y knows.longer ∙ same_records (image_in c.target) x c.records knows.shown.read));
+      passed = knows.passed;
       knows = record { shown = still_shown i x y c.records knows.longer knows.shown; shape = knows.shape; all = all; known = knows.known };
     }
       where

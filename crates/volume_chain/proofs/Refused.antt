@@ -1,7 +1,8 @@
 -- A layer of the path that is refused: the refusal is the image's first.
-use Rattle.std.proofs.Common.{◌≡◌, ℕ, List, Some, refl, sym, ap, ◌∙◌, subst, inl, inr}
+use Rattle.std.proofs.Common.{◌≡◌, ℕ, List, Some, None, refl, sym, ap, ◌∙◌, subst, inl, inr}
 use Rattle.sd_names.specs.declared.fault.LayerFault.{LayerFault}
 use Rattle.sd_names.specs.declared.id.Id.{Id}
+use Rattle.sd_names.specs.declared.place.Place.{Place}
 use Rattle.sd_names.specs.declared.refusal.Refusal.{Refusal}
 use Rattle.sd_names.specs.declared.refusal.Refusal.TheVariants.{DiskFault, LayerRefused, OutOfMemory, Vanished}
 use Rattle.sd_names.specs.declared.turn.Turn.TheVariants.{Ended}
@@ -16,6 +17,7 @@ use Rattle.chain_model.specs.Folder.{Volumes}
 use Rattle.chain_model.specs.Opening.{FirstRefusal, OpenFault, both, header, layer as layer_check}
 use Rattle.chain_records.specs.Records.{ids_of}
 use Rattle.chain_records.proofs.Opening.{refused_by_layers}
+use Rattle.chain_gathering.specs.declared.names.VolumeName.TheVariants.{Data}
 use Rattle.volume_chain.specs.Chain.{image_in}
 use Rattle.volume_chain.specs.Knowing.{IsNextLayer, KnowsLayerFile, KnowsPath}
 use Rattle.volume_chain.specs.Stages.{IsNoFile, IsRefused, StageSteps}
@@ -51,9 +53,10 @@ layer_fault c host x rest d o fault knows next file has =
       refl,
     )))
 
-no_file : (t : layers.Target) (refusal : Refusal) (d : Content) → stage.IsGone t refusal d → IsNoFile refusal
-no_file t (Vanished a) d gone = gone.0
-no_file t _ d gone = tt
+no_file : (c : Chain) (o : Opening) (refusal : Refusal) (d : Content) → stage.IsGone (layer.target_of o) refusal d → IsNoFile (stages.Layer c o) d refusal
+no_file c o (Vanished a) d gone =
+    (gone.0, λ shaped. inr (Data shaped.1.volume, subst (λ (q : Place). d.file q ≡ None) (ap (λ (t : layers.Target). t.place) shaped.1.target) gone.1))
+no_file c o _ d gone = tt
 
 refused : (c : Chain) (host : ℕ) (x : Volumes) (rest : List Id) (d : Content) (o : Opening) (e : Refusal) → KnowsPath c host x rest d → IsNextLayer c o → (file : KnowsLayerFile o host x d)
     → stage.IsRefused (layer.target_of o) (file_of file.0.size file.0.stable) e → IsRefused c.target x e d
@@ -64,5 +67,5 @@ refused c host x rest d o OutOfMemory knows next file is = inr (knows.settled, i
 refused c host x rest d o _ knows next file is = absurd is
 
 pub layer_ended : (c : Chain) (o : Opening) (host : ℕ) (e : Refusal) (d after : Content) → layer.OpensOn o host (Ended tt e) d after → StageSteps (stages.Layer c o) host (Ended tt e) d after
-layer_ended c o host e d after on = same_steps (stages.Layer c o) host (Ended tt e) d after on.same (no_file (layer.target_of o) e d on.gone)
+layer_ended c o host e d after on = same_steps (stages.Layer c o) host (Ended tt e) d after on.same (no_file c o e d on.gone)
     (λ x knows. refused c host x _ d o e knows.0 knows.1 knows.2 (on.after knows.2.0.size knows.2.0.stable knows.2.2))

@@ -20,7 +20,7 @@ kept host None = tt
 kept host (Some f) = inl refl
 
 -- a step that changes nothing is as it has to be where its turn is
-pub same_steps : (s : Stage) (host : ℕ) (turn : StageTurn) (d e : Content) → e ≡ d → MatchTurn turn (λ _. Unit {0}) (λ _. Unit {0}) (λ _ refusal. IsNoFile refusal)
+pub same_steps : (s : Stage) (host : ℕ) (turn : StageTurn) (d e : Content) → e ≡ d → MatchTurn turn (λ _. Unit {0}) (λ _. Unit {0}) (λ _ refusal. IsNoFile s d refusal)
     → ((x : Volumes) → StageKnows s host x d → StageAfter (target_at s) host (looked_at s x d) turn d) → StageSteps s host turn d e
 same_steps s host turn d e same gone after = subst (λ (c : Content). StageSteps s host turn d c) (sym same) (record {
   dirs = λ q. refl;

@@ -1,5 +1,5 @@
 -- What a step of an opening does, stage by stage.
-use Rattle.std.specs.Prelude.{◌≡◌, ◌⊎◌, ℕ, ◌+◌, ◌*◌, ◌/◌, ◌^◌, ◌<◌, sum_by, List, length, drop, Option, Result, unwrap_or}
+use Rattle.std.specs.Prelude.{◌≡◌, ◌⊎◌, ℕ, ◌+◌, ◌*◌, ◌/◌, ◌^◌, ◌<◌, sum_by, false, List, length, drop, Option, None, Result, unwrap_or}
 use Rattle.sd_names.specs.Id.{zero_id}
 use Rattle.sd_names.specs.Turn.{MatchTurn}
 use Rattle.sd_names.specs.declared.absence.Absence.TheVariants as absence
@@ -34,7 +34,7 @@ use Rattle.chain_gathering.specs.Steps.{IsKeptFile, IsPaid}
 use Rattle.chain_gathering.specs.declared.names.VolumeName.{VolumeName}
 use Rattle.volume_chain.specs.Chain.{IsExpected, IsShaped, dir_in, image_in, opened, place_in, target_of}
 use Rattle.volume_chain.specs.Checking.{IsRecordRefusal, StageTurn}
-use Rattle.volume_chain.specs.Knowing.{KnowsChain, StageKnows, StageShaped}
+use Rattle.volume_chain.specs.Knowing.{ArePassed, KnowsChain, StageKnows, StageShaped}
 use Rattle.volume_chain.specs.Reached.{LacksMemory}
 use Rattle.volume_chain.specs.declared.chain.Chain.{Chain}
 use Rattle.volume_chain.specs.declared.chain.Target.{Target}
@@ -132,13 +132,14 @@ looked_at (Along c) x e = x
 looked_at (Layer c o) x e = x
 
 -- An open chain: the image can be opened, the path is that of its reading volume, nothing is unsynced in its volumes' files
--- and texts, and the chain knows it.
-pub record IsOpen (c : Chain) (host : ℕ) (d : Content) : Type 0 where
+-- and texts, and the chain knows it. A raw volume of the path has the length of its file when that was asked.
+pub record IsOpen (c : Chain) (host : ℕ) (x : Volumes) (d : Content) : Type 0 where
   pub settled : AreSettled (dir_in c.target) d
   pub volume : Id
   pub below : List Id
   pub openable : IsOpenable (image_in c.target) (volumes_in (dir_in c.target) d) volume below
   pub path : c.path ≡ path_of (records_of (image_in c.target) (volumes_in (dir_in c.target) d)) volume below
+  pub passed : ArePassed (image_in c.target) x c.path c.volumes
   pub knows : KnowsChain c host d
 
 -- The disk failed, or nothing is unsynced and the refusal is the image's first, or there was no memory where none came before.
@@ -148,13 +149,17 @@ IsRefused t x refusal e = ((n : ℕ) × (refusal ≡ DiskFault n)) ⊎ (AreSettl
 abbrev pub StageAfter : Target → ℕ → Volumes → StageTurn → Content → Type 0
 StageAfter t host x turn e = MatchTurn turn
     (λ next. StageKnows next host x e)
-    (λ c. IsOpen c host e)
+    (λ c. IsOpen c host x e)
     (λ _ refusal. IsRefused t x refusal e)
 
--- 122 comes only where a file or the folder isn't there
-abbrev pub IsNoFile : Refusal → Type 0
-IsNoFile (Vanished a) = a ≡ absence.NoFile
-IsNoFile _ = Unit {0}
+-- an image's folder isn't there, or in it the file or the text of a volume
+abbrev pub IsMissing : Dir → Content → Type 0
+IsMissing dir d = (d.dir dir ≡ false) ⊎ ((o : VolumeName) × (d.file (names.place_in dir (name_of o)) ≡ None))
+
+-- 122 comes only where the image's folder or one of its files isn't there
+abbrev pub IsNoFile : Stage → Content → Refusal → Type 0
+IsNoFile s d (Vanished a) = (a ≡ absence.NoFile) × (StageShaped s → IsMissing (dir_in (target_at s)) d)
+IsNoFile s d _ = Unit {0}
 
 -- A step changes nothing but that what this host had not synced of one of the volumes' files and texts reaches the medium.
 -- What crashes may leave then they might have left before.
@@ -163,5 +168,5 @@ pub record StageSteps (s : Stage) (host : ℕ) (turn : StageTurn) (d e : Content
   pub files : StageShaped s → (o : VolumeName) → IsAlso (IsKeptFile host) (d.file (names.place_in (dir_in (target_at s)) (name_of o))) (e.file (names.place_in (dir_in (target_at s)) (name_of o)))
   pub others : StageShaped s → (q : Place) → ((o : VolumeName) → q ≡ names.place_in (dir_in (target_at s)) (name_of o) → ⊥) → e.file q ≡ d.file q
   pub outcomes : (o : Content) → IsOutcome e o → IsOutcome d o
-  pub gone : MatchTurn turn (λ _. Unit {0}) (λ _. Unit {0}) (λ _ refusal. IsNoFile refusal)
+  pub gone : MatchTurn turn (λ _. Unit {0}) (λ _. Unit {0}) (λ _ refusal. IsNoFile s d refusal)
   pub after : (x : Volumes) → StageKnows s host x d → StageAfter (target_at s) host (looked_at s x e) turn e
