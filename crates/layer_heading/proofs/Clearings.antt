@@ -13,10 +13,10 @@ use Rattle.qcow_layer.specs.declared.layer.Layer.{Layer}
 use Rattle.layer_writing.specs.Holding.{on_medium, with_sector}
 use Rattle.layer_writing.proofs.Known.{anew}
 use Rattle.layer_heading.specs.Cleared.{IsCleared, IsOldOrCleared, cleared, cleared_sector}
-use Rattle.layer_heading.specs.Clearing.{HasFeatures, KeepsCleared, KnowsClearing, laid_next}
+use Rattle.layer_heading.specs.Clearing.{HasFeatures, KeepsCleared, KnowsStage, laid_next}
 use Rattle.layer_heading.specs.Writing.{IsQuiet, IsWriting, ReadsThen, SyncsThen, Turned, WritesThen}
-use Rattle.layer_heading.specs.declared.clearing.Clearing.{Clearing}
-use Rattle.layer_heading.specs.declared.clearing.Clearing.TheVariants.{Headed}
+use Rattle.layer_heading.specs.declared.clearing_stage.ClearingStage.{ClearingStage}
+use Rattle.layer_heading.specs.declared.clearing_stage.ClearingStage.TheVariants.{Headed}
 use Rattle.layer_heading.proofs.ClearedFiles as cleared_files
 use Rattle.layer_heading.proofs.Quiet as quiet
 use Rattle.layer_heading.proofs.Writing as writing
@@ -35,7 +35,7 @@ sector_long layer host f q some =
     let k = quiet.numbers layer host f q in
     cleared_files.first_long f.size (capacity_kept layer) f.stable (header_kept layer) some (quiet.long layer host f q) k.header k.sound (quiet.inside layer host f q)
 
-module _ (layer after : Layer) (host faults : ℕ) (turn : Turned Clearing) (d e : Content) (f : File) (there : d.file (place_kept layer) ≡ Some f)
+module _ (layer after : Layer) (host faults : ℕ) (turn : Turned ClearingStage) (d e : Content) (f : File) (there : d.file (place_kept layer) ≡ Some f)
     (formed : (f' : File) → e.file (place_kept layer) ≡ Some f' → IsWellFormedFile f') where
   abbrev h : Header
   h = header_kept layer
@@ -47,26 +47,26 @@ module _ (layer after : Layer) (host faults : ℕ) (turn : Turned Clearing) (d e
   same x = inl refl
 
   abbrev pub Here : Type 0
-  Here = writing.Here R same (KnowsClearing layer host) layer after host faults turn d e f there formed
+  Here = writing.Here R same (KnowsStage layer host) layer after host faults turn d e f there formed
 
   pub read_here : IsQuiet layer host f → HasFeatures layer → ReadsThen layer host faults laid_next turn d e → Here
   read_here q some call =
-      writing.read_here R same (KnowsClearing layer host) layer after host faults turn d e f there formed laid_next q
-      (λ by. writing.next_by R same (KnowsClearing layer host) layer after host faults turn d e f there formed (laid_next (f.stable 0)) f (sym by) (q, some, refl)) call
+      writing.read_here R same (KnowsStage layer host) layer after host faults turn d e f there formed laid_next q
+      (λ by. writing.next_by R same (KnowsStage layer host) layer after host faults turn d e f there formed (laid_next (f.stable 0)) f (sym by) (q, some, refl)) call
 
   pub laid_here : (sector : List ℕ) → IsQuiet layer host f → HasFeatures layer → sector ≡ cleared_sector (f.stable 0) → WritesThen layer host 0 sector faults (More Headed) turn d e → Here
   laid_here sector q some is call =
       let c = is_cleared layer host f q some in
-      writing.written_here R same (KnowsClearing layer host) layer after host faults turn d e f there formed 0 (cleared_sector (f.stable 0)) Headed q (sector_long layer host f q some)
+      writing.written_here R same (KnowsStage layer host) layer after host faults turn d e f there formed 0 (cleared_sector (f.stable 0)) Headed q (sector_long layer host f q some)
       (quiet.some layer host f q) (inr c, c.rest.sound)
       (λ f' w. (f, q, some, w)) (subst (λ (s : List ℕ). WritesThen layer host 0 s faults (More Headed) turn d e) is call)
 
   pub headed_here : (g : File) → IsQuiet layer host g → HasFeatures layer → IsWriting host 0 (cleared_sector (g.stable 0)) g f → KeepsCleared layer after turn → SyncsThen layer host faults (Done tt) turn d e → Here
   headed_here g q some w keeps call =
       let c = is_cleared layer host g q some in
-      writing.synced_here R same (KnowsClearing layer host) layer after host faults turn d e f there formed 0 (cleared_sector (g.stable 0)) (Done tt) g q w (inr c, c.rest.sound)
+      writing.synced_here R same (KnowsStage layer host) layer after host faults turn d e f there formed 0 (cleared_sector (g.stable 0)) (Done tt) g q w (inr c, c.rest.sound)
       (λ f' size settled stable formed' by.
-      let with_header : IsWithHeader layer (cleared h) (parent_kept layer) after = subst (λ (t : Turned Clearing). KeepsCleared layer after t) by keeps in
+      let with_header : IsWithHeader layer (cleared h) (parent_kept layer) after = subst (λ (t : Turned ClearingStage). KeepsCleared layer after t) by keeps in
       let numbers : KnowsNumbers after (file_of g.size (headed g)) =
       quiet.numbers_with layer host g q (cleared h) (parent_kept layer) after with_header (file_of g.size (headed g)) c.header ((quiet.numbers layer host g q).parent ∙ sym c.parent) refl c.rest in (
         anew layer after host g f' q.writer (quiet.same_file layer host g q (cleared h) (parent_kept layer) after with_header refl) size settled

@@ -2,6 +2,7 @@
 #![tactic(auto)]
 
 mod clearing;
+mod clearing_stage;
 mod header;
 pub mod laws;
 mod rebasing;

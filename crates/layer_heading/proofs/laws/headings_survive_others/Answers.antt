@@ -10,5 +10,5 @@ returns-clause-rebasing c r host other l f d e apart down there knows =
 
 pub returns-clause-clearing : goal.returns-clause-clearing
 returns-clause-clearing c work host other l f d e apart down there knows =
-    let alone = clearing_alone l host f work knows in
+    let alone = clearing_alone l host f work.stage knows in
     down_leaves_file d e other l.target.place f down there (others_settled host other f apart alone.0 alone.1)

@@ -5,14 +5,14 @@ use Rattle.shared_disk.specs.Calls.{ReadAt}
 use Rattle.layer_heading.specs.Cleared.{cleared_sector}
 use Rattle.layer_heading.specs.Clearing.{laid_next}
 use Rattle.layer_heading.specs.Writing.{Turned}
-use Rattle.layer_heading.specs.declared.clearing.Clearing.{Clearing}
-use Rattle.layer_heading.specs.declared.clearing.Clearing.TheVariants.{Laid}
-use Rattle.layer_heading.proofs.clearing.Clearing.lay.Goals as goal
+use Rattle.layer_heading.specs.declared.clearing_stage.ClearingStage.{ClearingStage}
+use Rattle.layer_heading.specs.declared.clearing_stage.ClearingStage.TheVariants.{Laid}
+use Rattle.layer_heading.proofs.clearing_stage.ClearingStage.lay.Goals as goal
 
-more_laid : (sector first : List ℕ) → sector ≡ cleared_sector first → ◌≡◌ {A = Turned Clearing} (More (Laid sector)) (laid_next first)
+more_laid : (sector first : List ℕ) → sector ≡ cleared_sector first → ◌≡◌ {A = Turned ClearingStage} (More (Laid sector)) (laid_next first)
 more_laid sector first same = ap laid same
   where
-    laid : List ℕ → Turned Clearing
+    laid : List ℕ → Turned ClearingStage
     laid s = More (Laid s)
 
 pub returns-in-Ok-clause-content : goal.returns-in-Ok-clause-content

@@ -1,10 +1,10 @@
 use Rattle.std.proofs.Common.{replicate, ap, ◌∙◌, subst}
 use Rattle.qcow_format.specs.declared.header.Header.{Header}
-use Rattle.layer_heading.specs.Clearing.{KnowsClearing}
-use Rattle.layer_heading.specs.declared.clearing.Clearing.{Clearing}
+use Rattle.layer_heading.specs.Clearing.{KnowsStage}
+use Rattle.layer_heading.specs.declared.clearing_stage.ClearingStage.{ClearingStage}
 use Rattle.layer_heading.proofs.Clearings.{headed_here, laid_here, read_here}
 use Rattle.layer_heading.proofs.Frames.{at_same, read_elsewhere, sync_elsewhere, write_elsewhere}
-use Rattle.layer_heading.proofs.clearing.Clearing.step.Goals as goal
+use Rattle.layer_heading.proofs.clearing_stage.ClearingStage.step.Goals as goal
 
 pub returns-else-header-eq0-clause-content : goal.returns-else-header-eq0-clause-content
 returns-else-header-eq0-clause-content g c d tells =
@@ -16,7 +16,7 @@ returns-else-header-eq0-clause-content g c d tells =
         dirs = rest.dirs;
         others = rest.others;
         here = λ f there knows.
-            let q = subst (λ (s : Clearing). KnowsClearing c.args.layer.now c.args.host s f) c.in-Begun.is knows in
+            let q = subst (λ (s : ClearingStage). KnowsStage c.args.layer.now c.args.host s f) c.in-Begun.is knows in
             read_here c.args.layer.now c.args.layer.now c.args.host _ _ d call.0 f there (λ f' at. (g.met.D.SharedDisk.well_formed c.lay.new.disk call.0 call.1).files _ f' at) q
             (λ none. c.if-header-eq0.false (ap (λ (x : Header). x.autoclear_features) c.header.ensures ∙ none)) call.2;
       },
@@ -32,7 +32,7 @@ returns-in-Laid-clause-content g c d tells =
         dirs = rest.dirs;
         others = rest.others;
         here = λ f there knows.
-            let k = subst (λ (s : Clearing). KnowsClearing c.args.layer.now c.args.host s f) c.in-Laid.is knows in
+            let k = subst (λ (s : ClearingStage). KnowsStage c.args.layer.now c.args.host s f) c.in-Laid.is knows in
             laid_here c.args.layer.now c.args.layer.now c.args.host _ _ d call.0 f there (λ f' at. (g.met.D.SharedDisk.well_formed c.write.new.disk call.0 call.1).files _ f' at) c.in-Laid.sector k.0 k.1 k.2 call.2;
       },
     )
@@ -47,7 +47,7 @@ returns-in-Headed-clause-content g c d tells =
         dirs = rest.dirs;
         others = rest.others;
         here = λ f there knows.
-            let k = subst (λ (s : Clearing). KnowsClearing c.args.layer.now c.args.host s f) c.in-Headed.is knows in
+            let k = subst (λ (s : ClearingStage). KnowsStage c.args.layer.now c.args.host s f) c.in-Headed.is knows in
             headed_here c.args.layer.now _ c.args.host _ _ d call.0 f there (λ f' at. (g.met.D.SharedDisk.well_formed c.sync.new.disk call.0 call.1).files _ f' at) k.0 k.1 k.2 k.3 c.sync.ensures.layer call.2;
       },
     )
