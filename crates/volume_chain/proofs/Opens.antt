@@ -159,16 +159,15 @@ begin_steps c v capacity host turn d k begins =
 -- ---- the path is at its end
 
 pub end_steps : (c : Chain) (host : ℕ) (d : Content) → kind_of (records_in c.records) (next_of c) ≡ None → StageSteps (stages.Along c) host (Done c) d d
-end_steps c host d none = same_steps (stages.Along c) host (Done c) d d refl tt (λ x knows. is_open x knows)
+end_steps c host d none = same_steps (stages.Along c) host (Done c) d d refl tt (λ x knows. (is_open x knows, knows.passed))
   where
-    is_open : (x : Volumes) → KnowsPath c host x (drop (length c.volumes) c.path) d → IsOpen c host x d
+    is_open : (x : Volumes) → KnowsPath c host x (drop (length c.volumes) c.path) d → IsOpen c host d
     is_open x knows = record {
       settled = knows.settled;
       volume = knows.shape.reading.0;
       below = knows.shape.reading.1;
       openable = openable_kept i x y knows.shape.reading.0 knows.shape.reading.1 knows.longer (opened_by_records i x c.records knows.shape.reading.0 knows.shape.reading.1 knows.shown knows.shape.checked knows.shape.reading.2 fine);
       path = knows.shape.reading.3 ∙ ap (λ (r : Records). path_of r knows.shape.reading.0 knows.shape.reading.1) (sym (records_same i x y knows.longer ∙ same_records (image_in c.target) x c.records knows.shown.read));
-      passed = knows.passed;
       knows = record { shown = still_shown i x y c.records knows.longer knows.shown; shape = knows.shape; all = all; known = knows.known };
     }
       where

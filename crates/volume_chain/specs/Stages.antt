@@ -132,24 +132,24 @@ looked_at (Along c) x e = x
 looked_at (Layer c o) x e = x
 
 -- An open chain: the image can be opened, the path is that of its reading volume, nothing is unsynced in its volumes' files
--- and texts, and the chain knows it. A raw volume of the path has the length of its file when that was asked.
-pub record IsOpen (c : Chain) (host : ℕ) (x : Volumes) (d : Content) : Type 0 where
+-- and texts, and the chain knows it.
+pub record IsOpen (c : Chain) (host : ℕ) (d : Content) : Type 0 where
   pub settled : AreSettled (dir_in c.target) d
   pub volume : Id
   pub below : List Id
   pub openable : IsOpenable (image_in c.target) (volumes_in (dir_in c.target) d) volume below
   pub path : c.path ≡ path_of (records_of (image_in c.target) (volumes_in (dir_in c.target) d)) volume below
-  pub passed : ArePassed (image_in c.target) x c.path c.volumes
   pub knows : KnowsChain c host d
 
 -- The disk failed, or nothing is unsynced and the refusal is the image's first, or there was no memory where none came before.
 abbrev pub IsRefused : Target → Volumes → Refusal → Content → Type 0
 IsRefused t x refusal e = ((n : ℕ) × (refusal ≡ DiskFault n)) ⊎ (AreSettled (dir_in t) e × (LacksMemory (image_in t) x refusal ⊎ OpenFault (image_in t) x refusal))
 
+-- A chain that is open has the length of each raw volume's file when that was asked.
 abbrev pub StageAfter : Target → ℕ → Volumes → StageTurn → Content → Type 0
 StageAfter t host x turn e = MatchTurn turn
     (λ next. StageKnows next host x e)
-    (λ c. IsOpen c host x e)
+    (λ c. IsOpen c host e × ArePassed (image_in t) x c.path c.volumes)
     (λ _ refusal. IsRefused t x refusal e)
 
 -- an image's folder isn't there, or in it the file or the text of a volume
