@@ -1,0 +1,3 @@
+pub mod NoZero
+pub mod ReadBack
+pub mod Steps
