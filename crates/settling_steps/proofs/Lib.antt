@@ -1,0 +1,3 @@
+pub mod Orders
+pub mod Tidy
+pub mod Long

@@ -1,0 +1,3 @@
+pub mod Names
+pub mod Leftovers
+pub mod Lengthening
