@@ -19,3 +19,4 @@ pub mod Growing
 pub mod Anew
 pub mod Bounds
 pub mod Reaches
+pub mod Places

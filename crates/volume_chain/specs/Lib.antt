@@ -10,3 +10,4 @@ pub mod Opening
 pub mod Reached
 pub mod Stages
 pub mod Subchain
+pub mod Parts

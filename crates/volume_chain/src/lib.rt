@@ -7,6 +7,7 @@ mod fresh;
 pub mod laws;
 mod layers;
 mod opening;
+mod parts;
 mod stages;
 mod subchain;
 mod volumes;

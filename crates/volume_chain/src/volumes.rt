@@ -1,14 +1,17 @@
 // The volumes of a path that are open.
-ghost use Rattle.std.specs.Prelude.{◌≡◌, ◌<◌, ◌≤◌, ◌++◌, [], ◌∷◌, length, slice_get, IfOk, Some};
+ghost use Rattle.std.specs.Prelude.{◌≡◌, ◌<◌, ◌≤◌, ◌++◌, [], ◌∷◌, length, slice_get, slice_set, Some, IfNone, IfOk, IfSome};
 ghost use Rattle.std.specs.Borrow.{sem};
+ghost use Rattle.qcow_layer.specs.declared.layer.Layer.{Layer as AnyLayer};
 ghost use Rattle.volume_chain.specs.Layers.{IsLayer, IsLayerAt};
 ghost use Rattle.volume_chain.specs.Lending.{LendsLayer, LendsLayerOf, LendsVolume};
+ghost use Rattle.volume_chain.specs.declared.volumes.OpenVolume.TheVariants as open_volume;
 ghost use Rattle.volume_chain.specs.declared.volumes.OpenVolume.TheVariants.{Cow};
 
 use qcow_layer::Layer;
 use sd_names::NoMemory;
 use std::alloc::Global;
 use std::marker::Model;
+use std::mem::replace;
 
 /// How many volumes a path can have: a list of volumes has at most 33.
 const MOST: usize = 33;
@@ -97,5 +100,34 @@ impl OpenVolumes {
         ensures few { length result.now ≤ 33 }
     {
         &self.volumes
+    }
+
+    /// Takes out the layer at a place, where a raw volume of no bytes stands then. None, and nothing is changed, where no
+    /// layer stands there.
+    pub(crate) fn take_layer(&mut self, at: usize) -> Option<Layer>
+        ensures some { IfSome result (λ layer. slice_get self.old at ≡ Some (open_volume.Cow layer)) }
+        ensures room { IfSome result (λ _. at < length self.new) }
+        ensures taken { IfSome result (λ _. self.new ≡ slice_set self.old at (open_volume.Raw 0)) }
+        ensures none { IfNone result (self.new ≡ self.old) }
+        ensures other { IfNone result ((layer : AnyLayer) → slice_get self.old at ≡ Some (open_volume.Cow layer) → ⊥) }
+    {
+        if at >= self.volumes.len() {
+            return None;
+        }
+        match replace(&mut self.volumes[at], OpenVolume::Raw(0)) {
+            OpenVolume::Cow(layer) => Some(layer),
+            OpenVolume::Raw(length) => {
+                self.volumes[at] = OpenVolume::Raw(length);
+                None
+            }
+        }
+    }
+
+    /// Puts a volume at a place.
+    pub(crate) fn put(&mut self, at: usize, volume: OpenVolume)
+        requires { at < length self.old }
+        ensures { self.new ≡ slice_set self.old at volume }
+    {
+        self.volumes[at] = volume;
     }
 }
