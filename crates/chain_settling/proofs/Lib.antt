@@ -1,0 +1,12 @@
+pub mod Held
+pub mod Alike
+pub mod Writes
+pub mod Outcomes
+pub mod Plans
+pub mod Begins
+pub mod Valid
+pub mod Started
+pub mod Fits
+pub mod Grows
+pub mod Heads
+pub mod Opened

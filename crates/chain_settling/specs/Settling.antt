@@ -1,0 +1,56 @@
+-- A settling between its steps, in public words.
+use Rattle.std.specs.Prelude.{◌≡◌, ℕ, Option}
+use Rattle.sd_names.specs.declared.place.Name.{Name}
+use Rattle.sd_names.specs.declared.turn.Turn.{Turn}
+use Rattle.sd_names.specs.declared.turn.Turn.TheVariants.{More, Done, Ended}
+use Rattle.shared_disk.specs.Content.{Content}
+use Rattle.chain_model.specs.Folder.{Volumes}
+use Rattle.chain_model.specs.Records.{Records}
+use Rattle.volume_chain.specs.declared.chain.Chain.{Chain}
+use Rattle.chain_settling.specs.Fit.{IsFit, KeepsFit, StageTurn, chain_in}
+use Rattle.chain_settling.specs.Left.{FallsIn, MeetsAt, after_lengths, left_of, lengths_left}
+use Rattle.chain_settling.specs.Steps.{KnowsStage, SettlesIn}
+use Rattle.chain_settling.specs.declared.settling.Settling.{Settling}
+use Rattle.chain_settling.specs.declared.stages.Stage.{Stage}
+
+abbrev pub SettlingTurn : Type 0
+SettlingTurn = Turn Settling Chain (Unit {0})
+
+abbrev pub stage_of : Settling → Stage
+stage_of s = s.stage
+
+-- the same turn between stages
+abbrev pub stage_turn : SettlingTurn → StageTurn
+stage_turn (More s) = More s.stage
+stage_turn (Done c) = Done c
+stage_turn (Ended b refusal) = Ended b refusal
+
+-- the chain that is settled, as it is kept
+abbrev pub chain_of : Settling → Chain
+chain_of s = chain_in s.stage
+
+-- how many more steps it takes at the most, `cost after` being what the names above `after` cost
+abbrev pub steps_left : (Option Name → ℕ) → Settling → ℕ
+steps_left cost s = left_of cost s.stage
+
+-- the image, its volumes and the path stay the same, and each record stays valid
+abbrev pub Keeps : Settling → SettlingTurn → Type 0
+Keeps s turn = KeepsFit s.stage (stage_turn turn)
+
+abbrev pub Nears : Settling → SettlingTurn → Type 0
+Nears s turn = FallsIn s.stage (stage_turn turn)
+
+abbrev pub Meets : (Option Name → Option Name → Type 0) → Settling → SettlingTurn → Type 0
+Meets R s turn = MeetsAt R s.stage (stage_turn turn)
+
+-- a settling that was begun: it may be stepped
+pub record IsBegun (c : Chain) (s : Settling) : Type 0 where
+  pub chain : chain_of s ≡ c
+  pub fit : IsFit s.stage
+
+-- what is known in its stage, and what a step leaves of an image that is known
+abbrev pub Knows : Settling → ℕ → Records → Volumes → Content → Type 0
+Knows s host r x d = KnowsStage s.stage host r x d
+
+abbrev pub SettlesOn : Settling → ℕ → ℕ → SettlingTurn → Content → Content → Type 0
+SettlesOn s host faults turn d e = SettlesIn s.stage host faults (stage_turn turn) d e

@@ -1,0 +1,59 @@
+-- What a step of a settling leaves of an image that is known.
+use Rattle.std.specs.Prelude.{◌≡◌, ◌≢◌, ℕ}
+use Rattle.sd_names.specs.Turn.{MatchTurn}
+use Rattle.sd_names.specs.declared.place.Dir.{Dir}
+use Rattle.sd_names.specs.declared.place.Place.{Place}
+use Rattle.sd_names.specs.declared.refusal.Refusal.TheVariants.{DiskFault}
+use Rattle.shared_disk.specs.Content.{Content}
+use Rattle.layer_heading.specs.Rebasing as heading
+use Rattle.layer_heading.specs.Rebasing.{KeepsLayer}
+use Rattle.layer_heading.specs.Writing.{Turned}
+use Rattle.layer_heading.specs.declared.rebasing.Rebasing.{Rebasing}
+use Rattle.qcow_layer.specs.declared.layer.Layer.{Layer}
+use Rattle.settling_steps.specs.Lengthening.{LengthTurn, Lengthens}
+use Rattle.settling_steps.specs.declared.lengthening.Lengthening.{Lengthening}
+use Rattle.chain_model.specs.Folder.{Volumes}
+use Rattle.chain_model.specs.Records.{Records}
+use Rattle.volume_chain.specs.Parts.{with_open}
+use Rattle.volume_chain.specs.declared.chain.Chain.{Chain}
+use Rattle.volume_chain.specs.declared.volumes.OpenVolume.TheVariants.{Cow}
+use Rattle.chain_settling.specs.Alike.{ReadsAlike, folder_in, image_kept}
+use Rattle.chain_settling.specs.Fit.{StageTurn, chain_in}
+use Rattle.chain_settling.specs.Knowing.{IsSettledImage, KnowsHeaders, KnowsHeading, KnowsLengthening, KnowsLengths, KnowsTexts, KnowsTidying, KnowsWriting}
+use Rattle.chain_settling.specs.Work.{IsLayerAt}
+use Rattle.chain_settling.specs.declared.stages.Stage.{Stage}
+use Rattle.chain_settling.specs.declared.stages.Stage.TheVariants.{Tidying, Lengths, Headers, Heading, Texts, Writing}
+use Rattle.chain_settling.specs.declared.stages.Stage.TheVariants as stages
+
+-- what is known in each stage
+abbrev pub KnowsStage : Stage → ℕ → Records → Volumes → Content → Type 0
+KnowsStage (Texts c p i) host r x d = KnowsTexts c p i host r x d
+KnowsStage (Writing c p i w) host r x d = KnowsWriting c p i w host r x d
+KnowsStage (Tidying c t) host r x d = KnowsTidying c t host r x d
+KnowsStage (Lengths c at) host r x d = KnowsLengths c at host r x d
+KnowsStage (stages.Lengthening c at l) host r x d = KnowsLengthening c at l host r x d
+KnowsStage (Headers c at) host r x d = KnowsHeaders c at host r x d
+KnowsStage (Heading c at h) host r x d = KnowsHeading c at h host r x d
+
+-- No folder and no file outside the image's folder is changed, and the image reads alike on each outcome. A refusal is the
+-- disk's fault.
+pub record Settles (s : Stage) (host faults : ℕ) (r : Records) (x : Volumes) (turn : StageTurn) (d e : Content) : Type 0 where
+  pub dirs : (q : Dir) → e.dir q ≡ d.dir q
+  pub others : (q : Place) → q.dir ≢ folder_in (chain_in s) → e.file q ≡ d.file q
+  pub alike : ReadsAlike (image_kept (chain_in s)) (folder_in (chain_in s)) r x e
+  pub after : MatchTurn turn
+      (λ next. KnowsStage next host r x e)
+      (λ c. IsSettledImage c host r x e)
+      (λ _ refusal. refusal ≡ DiskFault faults)
+
+abbrev pub SettlesIn : Stage → ℕ → ℕ → StageTurn → Content → Content → Type 0
+SettlesIn s host faults turn d e = (r : Records) (x : Volumes) → KnowsStage s host r x d → Settles s host faults r x turn d e
+
+-- what a step of the growth of the layer's file at a place of the path leaves
+abbrev pub LengthensAt : Chain → ℕ → Lengthening → ℕ → ℕ → LengthTurn → Content → Content → Type 0
+LengthensAt c at l host faults turn d e = (m : Layer) → IsLayerAt c at m → Lengthens l m host faults turn d e
+
+-- What a step of the rewriting of the header at a place of the path leaves: the layer there is the changed one.
+abbrev pub RebasesAt : Chain → Chain → ℕ → Rebasing → ℕ → ℕ → Turned Rebasing → Content → Content → Type 0
+RebasesAt c next at h host faults turn d e = (m : Layer) → IsLayerAt c at m
+    → (after : Layer) × (next ≡ with_open c at (Cow after)) × KeepsLayer h m after turn × heading.Steps h m after host faults turn d e

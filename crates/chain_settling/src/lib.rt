@@ -1,0 +1,13 @@
+//! The settling of an image that was opened: what cut verbs left is removed or finished, so that texts and headers tell the
+//! image's chain.
+#![tactic(auto)]
+
+mod headers;
+mod laws;
+mod lengths;
+mod settling;
+mod stages;
+mod texts;
+
+pub use laws::{open_chains_are_known, settling_survives_crashes};
+pub use settling::Settling;
