@@ -96,7 +96,13 @@ fn sized_layers_byte_by_byte(rt: HostRuntime) -> Result<(), Fail> {
         (GIB, 3 * GIB, stale_table(alloc)?, three_gib(alloc)?, 7),
         (4_194_304, GIB, stale_small(alloc)?, whole_small(alloc)?, 8),
         (33_000, GIB, stale_data(alloc)?, rest_cleared(alloc)?, 13),
-        (536_870_912, GIB, stale_table(alloc)?, stale_table(alloc)?, 4),
+        (
+            536_870_912,
+            GIB,
+            stale_table(alloc)?,
+            stale_table(alloc)?,
+            4,
+        ),
         (GIB, GIB, stale_table(alloc)?, stale_table(alloc)?, 1),
         (GIB, 4_096, stale_table(alloc)?, stale_table(alloc)?, 1),
     ];
