@@ -5,7 +5,7 @@ use std::alloc::Global;
 use volume_meta::VolumeRecord;
 
 // What a volume may be.
-#[derive(Clone, Copy, PartialEq, Eq)]
+#[derive(Clone, Copy, Debug, PartialEq, Eq)]
 pub enum State {
     Legal,
     Illegal,
@@ -22,7 +22,8 @@ pub fn id(number: u8) -> Id {
     Id(bytes)
 }
 
-fn record(alloc: Global, row: &Row) -> VolumeRecord {
+// What the text of a volume says, without a disk type.
+pub fn record(alloc: Global, row: &Row) -> VolumeRecord {
     VolumeRecord {
         capacity: row.4.saturating_mul(512),
         ctime: 0,

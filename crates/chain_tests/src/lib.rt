@@ -6,6 +6,8 @@ mod gathering;
 #[cfg(test)]
 mod images;
 #[cfg(test)]
+mod opening;
+#[cfg(test)]
 mod refusals;
 #[cfg(test)]
 mod settling;
