@@ -8,6 +8,8 @@ mod images;
 #[cfg(test)]
 mod opening;
 #[cfg(test)]
+mod reading;
+#[cfg(test)]
 mod refusals;
 #[cfg(test)]
 mod settling;
