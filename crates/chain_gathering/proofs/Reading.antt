@@ -13,6 +13,7 @@ use Rattle.sd_names.specs.declared.refusal.Refusal.TheVariants.{ChainTooLong, Me
 use Rattle.shared_disk.specs.Content.{Content, File, without}
 use Rattle.shared_disk.specs.Crash.{IsSettled}
 use Rattle.shared_disk.specs.NameCalls.{place_in}
+use Rattle.shared_disk.specs.Places.{id_is}
 use Rattle.shared_disk.proofs.Outcomes.{contains_here, contains_more}
 use Rattle.whole_file.specs.Read.{ReadsFile}
 use Rattle.whole_file.specs.Text.{longest}
@@ -22,13 +23,14 @@ use Rattle.kv_text.specs.Text.{has_eof, pairs}
 use Rattle.kv_text.specs.declared.fault.TextFault.{TextFault}
 use Rattle.kv_text.specs.declared.fault.TextFault.TheVariants as fault
 use Rattle.volume_meta.specs.Read.{fields_of, needed_keys, read_volume, with_fault}
+use Rattle.volume_meta.specs.Valid.{IsValid}
 use Rattle.volume_meta.specs.declared.record.VolumeRecord.{VolumeRecord}
 use Rattle.chain_model.specs.Folder.{Volumes}
 use Rattle.chain_model.specs.Opening.{AreVolumes, Check, FirstRefusal, IsBadText, count, text}
 use Rattle.chain_model.specs.Records.{Image, stored_text, text_of}
 use Rattle.chain_model.proofs.Texts.{text_seen}
-use Rattle.chain_records.specs.Records.{ids_of}
-use Rattle.chain_gathering.specs.Kept.{first_file, first_id, ids_found, kept_with, next_has_file, next_of}
+use Rattle.chain_records.specs.Records.{ids_of, records_in}
+use Rattle.chain_gathering.specs.Kept.{AreValid, first_file, first_id, ids_found, kept_with, next_has_file, next_of}
 use Rattle.chain_gathering.specs.Knowing.{ArePassed, AreSettled, IsFirst, IsGathered, IsRead, IsThere, first_checks, volumes_in}
 use Rattle.chain_gathering.specs.Stages.{dir_in, image_in}
 use Rattle.chain_gathering.specs.declared.found.Found.{Found}
@@ -183,6 +185,30 @@ kept_on kept v r next are =
       order = ids_snoc kept.records (record { id = v; meta = r; has_file = next_has_file kept }) ∙ ap (λ (vs : List Id). vs ++ v ∷ []) are.order
           ∙ sym (next_split kept v next).next ∙ ap (λ (n : ℕ). take n (ids_found kept.found)) (sym more);
     }
+
+-- each record is valid, and so is one more
+record_snoc : (xs : List Volume) (y : Volume) (v : Id) (x : VolumeRecord) → records_in (xs ++ y ∷ []) v ≡ Some x → (records_in xs v ≡ Some x) ⊎ (y.meta ≡ x)
+record_snoc [] y v x e = go (id_is y.id v) e
+  where
+    go : (b : Bool) → (if b then Some y.meta else None) ≡ Some x → (None ≡ Some x) ⊎ (y.meta ≡ x)
+    go true e = inr cc
+    go false e = absurd cc
+record_snoc (z ∷ zs) y v x e = go (id_is z.id v) (λ f. record_snoc zs y v x f) e
+  where
+    go : (b : Bool) → (records_in (zs ++ y ∷ []) v ≡ Some x → (records_in zs v ≡ Some x) ⊎ (y.meta ≡ x)) → (if b then Some z.meta else records_in (zs ++ y ∷ []) v) ≡ Some x
+        → ((if b then Some z.meta else records_in zs v) ≡ Some x) ⊎ (y.meta ≡ x)
+    go true more e = inl e
+    go false more e = more e
+
+pub valid_none : AreValid []
+valid_none v x e = absurd cc
+
+pub valid_on : (kept : Gathered) (v : Id) (r : VolumeRecord) → IsValid r → AreValid kept.records → AreValid (kept_with kept v r).records
+valid_on kept v r valid are u x e = go (record_snoc kept.records (record { id = v; meta = r; has_file = next_has_file kept }) u x e)
+  where
+    go : (records_in kept.records u ≡ Some x) ⊎ (r ≡ x) → IsValid x
+    go (inl is) = are u x is
+    go (inr is) = subst IsValid is valid
 
 pub kept_whole : (kept : Gathered) → next_of kept ≡ None → AreOfFound kept → ids_of kept.records ≡ ids_found kept.found
 kept_whole kept none are =

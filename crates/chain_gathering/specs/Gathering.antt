@@ -7,9 +7,10 @@ use Rattle.sd_names.specs.declared.place.Name.{Name}
 use Rattle.sd_names.specs.declared.refusal.Refusal.{Refusal}
 use Rattle.shared_disk.specs.Content.{Content}
 use Rattle.chain_model.specs.Records.{Image}
+use Rattle.chain_gathering.specs.Kept.{AreValid}
 use Rattle.chain_gathering.specs.Knowing.{IsGathered, KnowsFolder, KnowsStage}
 use Rattle.chain_gathering.specs.Stages.{GatheringTurn, dir_in, image_in}
-use Rattle.chain_gathering.specs.Steps.{AreOfFound, IsGatheringRefusal, KeepsOrder, MeetsBy, NearsBy, left_of}
+use Rattle.chain_gathering.specs.Steps.{AreOfFound, IsGatheringRefusal, KeepsOrder, KeepsValid, MeetsBy, NearsBy, left_of}
 use Rattle.chain_gathering.specs.declared.gathered.Gathered.{Gathered}
 use Rattle.chain_gathering.specs.declared.gathering.Gathering.{Gathering}
 use Rattle.chain_gathering.specs.declared.stages.Target.{Target}
@@ -55,10 +56,18 @@ IsInOrder g = AreOfFound g.kept
 abbrev pub StaysInOrder : Gathering → GatheringTurn → Type 0
 StaysInOrder g turn = KeepsOrder g.kept turn
 
+-- each record that a gathering keeps is valid
+abbrev pub HasValidRecords : Gathering → Type 0
+HasValidRecords g = AreValid g.kept.records
+
+abbrev pub StaysValid : Gathering → GatheringTurn → Type 0
+StaysValid g turn = KeepsValid g.kept turn
+
 -- a gathering that was begun: it knows each folder that a host knows
 pub record IsBegun (g : Gathering) (sd id : Id) (version : ℕ) : Type 0 where
   pub image : image g ≡ record { domain = sd; id = id; version = version }
   pub folder : folder g ≡ dir.Image sd id
   pub left : (cost : Option Name → ℕ) → steps_left cost g ≡ cost None + 2
   pub order : IsInOrder g
+  pub valid : HasValidRecords g
   pub knows : (host : ℕ) (d : Content) → KnowsFolder (dir.Image sd id) host d → Knows g host d

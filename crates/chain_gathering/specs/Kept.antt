@@ -1,8 +1,10 @@
 -- What is kept of the volumes of an image.
-use Rattle.std.specs.Prelude.{nat_lt, if◌then◌else◌, Bool, false, List, [], ◌∷◌, ◌++◌, length, map, drop, Option, Some, None}
+use Rattle.std.specs.Prelude.{◌≡◌, nat_lt, if◌then◌else◌, Bool, false, List, [], ◌∷◌, ◌++◌, length, map, drop, Option, Some, None}
 use Rattle.sd_names.specs.declared.id.Id.{Id}
 use Rattle.shared_disk.specs.Places.{id_is}
+use Rattle.volume_meta.specs.Valid.{IsValid}
 use Rattle.volume_meta.specs.declared.record.VolumeRecord.{VolumeRecord}
+use Rattle.chain_records.specs.Records.{records_in}
 use Rattle.chain_gathering.specs.declared.found.Found.{Found}
 use Rattle.chain_records.specs.declared.volume.Volume.{Volume}
 use Rattle.chain_gathering.specs.declared.gathered.Gathered.{Gathered}
@@ -12,6 +14,10 @@ found_in g = g.found
 
 abbrev pub records_kept : Gathered → List Volume
 records_kept g = g.records
+
+-- each record of a list is valid, as all are that were read
+abbrev pub AreValid : List Volume → Type 0
+AreValid xs = (v : Id) (x : VolumeRecord) → records_in xs v ≡ Some x → IsValid x
 
 -- the volumes of each list
 abbrev pub ids_found : List Found → List Id

@@ -19,7 +19,7 @@ use Rattle.shared_disk.specs.Step.{IsDiskRefusal}
 use Rattle.volume_meta.specs.declared.record.VolumeRecord.{VolumeRecord}
 use Rattle.chain_model.specs.Records.{is_volume, text_of}
 use Rattle.chain_records.specs.Records.{ids_of}
-use Rattle.chain_gathering.specs.Kept.{ids_found, next_of}
+use Rattle.chain_gathering.specs.Kept.{AreValid, ids_found, next_of}
 use Rattle.chain_gathering.specs.Knowing.{AreSettled, IsFirst, IsGathered, KnowsStage, volumes_in}
 use Rattle.chain_gathering.specs.Names.{name_of, price}
 use Rattle.chain_gathering.specs.Stages.{GatheringTurn, dir_in, image_in}
@@ -99,6 +99,13 @@ abbrev pub KeepsOrder : Gathered → GatheringTurn → Type 0
 KeepsOrder kept turn = MatchTurn turn
     (λ next. AreOfFound kept → AreOfFound next.kept)
     (λ gathered. AreOfFound kept → ids_of gathered.records ≡ ids_found gathered.found)
+    (λ _ _. Unit {0})
+
+-- the records that are kept stay valid
+abbrev pub KeepsValid : Gathered → GatheringTurn → Type 0
+KeepsValid kept turn = MatchTurn turn
+    (λ next. AreValid kept.records → AreValid next.kept.records)
+    (λ gathered. AreValid kept.records → AreValid gathered.records)
     (λ _ _. Unit {0})
 
 -- ---- where the content is told

@@ -5,11 +5,11 @@ ghost use Rattle.sd_names.specs.declared.refusal.Refusal.TheVariants as refusal;
 ghost use Rattle.shared_disk.specs.Calls.{Told};
 ghost use Rattle.shared_disk.specs.Step.{EndsOnlyBy, StepCounts, TurnFaults};
 ghost use Rattle.whole_file.specs.Read.{IsShort};
-ghost use Rattle.chain_gathering.specs.Gathering.{IsBegun, MayRefuse, Meets, Nears, StaysInOrder};
+ghost use Rattle.chain_gathering.specs.Gathering.{IsBegun, MayRefuse, Meets, Nears, StaysInOrder, StaysValid};
 ghost use Rattle.chain_gathering.specs.Kept.{found_in, next_of, records_kept};
 ghost use Rattle.chain_gathering.specs.Names.{volume_name};
 ghost use Rattle.chain_gathering.specs.Stages.{KeepsText, Lists, ReadsNext, SyncsFile, after_sync, at_stage, dir_in, listed, met_stage};
-ghost use Rattle.chain_gathering.specs.Steps.{Gathers, IsGatheringRefusal, IsRise, KeepsOrder, MeetsBy, NearsBy};
+ghost use Rattle.chain_gathering.specs.Steps.{Gathers, IsGatheringRefusal, IsRise, KeepsOrder, KeepsValid, MeetsBy, NearsBy};
 
 use crate::gathered::Gathered;
 use crate::names::{VolumeName, has_ids};
@@ -60,6 +60,7 @@ impl Gathering {
         ensures rises { Meets IsRise self result }
         ensures falls { Nears self result }
         ensures order { StaysInOrder self result }
+        ensures valid { StaysValid self result }
         ensures content { Told (D.content disk.old) (D.content disk.new) (Gathers self host result) }
     {
         match self.stage {
@@ -100,6 +101,7 @@ impl Gathering {
         ensures rises { MeetsBy IsRise (Stage.Listing seen) result }
         ensures falls { NearsBy self (Stage.Listing seen) result }
         ensures order { KeepsOrder self.kept result }
+        ensures valid { KeepsValid self.kept result }
         ensures content { Told (D.content disk.old) (D.content disk.new) (Lists self seen (D.faults disk.new) result) }
     {
         match disk.next_name(host, self.dir(), seen.after) {
@@ -149,6 +151,7 @@ impl Gathering {
         ensures rises { MeetsBy IsRise (Stage.Syncing seen file) result }
         ensures falls { NearsBy self (Stage.Syncing seen file) result }
         ensures order { KeepsOrder self.kept result }
+        ensures valid { KeepsValid self.kept result }
         ensures content { Told (D.content disk.old) (D.content disk.new) (SyncsFile self seen file host (D.faults disk.new) result) }
     {
         let place = Place {
@@ -195,6 +198,7 @@ impl Gathering {
         ensures rises { MeetsBy IsRise Stage.Reading result }
         ensures falls { NearsBy self Stage.Reading result }
         ensures order { KeepsOrder self.kept result }
+        ensures valid { KeepsValid self.kept result }
         ensures content { Told (D.content disk.old) (D.content disk.new) (ReadsNext self (next_of self.kept) host (D.faults disk.new) result) }
     {
         let Some(id) = self.kept.next() else {
@@ -223,6 +227,7 @@ impl Gathering {
         ensures rises { MeetsBy IsRise Stage.Reading result }
         ensures falls { NearsBy self Stage.Reading result }
         ensures order { KeepsOrder self.kept result }
+        ensures valid { KeepsValid self.kept result }
     {
         let length = match text {
             Text::Absent => return Turn::Ended((), Refusal::Vanished(Absence::NoFile)),

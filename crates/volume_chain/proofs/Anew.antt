@@ -4,6 +4,7 @@ use Rattle.std.specs.Prelude.{if◌then◌else◌, is_some, option_and_then}
 use Rattle.std.specs.List.{Contains}
 use Rattle.std.specs.Option.{option_map}
 use Rattle.std.proofs.lemmas.Bool.{false≢true}
+use Rattle.std.proofs.lemmas.Option.{none-some, same_Some}
 use Rattle.sd_names.specs.Id.{zero_id}
 use Rattle.sd_names.specs.declared.id.Id.{Id}
 use Rattle.sd_names.specs.declared.kinds.Format.{Format}
@@ -14,6 +15,7 @@ use Rattle.shared_disk.specs.Content.{Content, File}
 use Rattle.shared_disk.specs.Places.{id_is}
 use Rattle.shared_disk.proofs.Outcomes.{nothing_in, cons_cases, contains_here}
 use Rattle.volume_meta.specs.Read.{read_volume}
+use Rattle.volume_meta.specs.Valid.{IsValid}
 use Rattle.volume_meta.specs.declared.record.VolumeRecord.{VolumeRecord}
 use Rattle.layer_creating.specs.New.{IsNewLayer}
 use Rattle.qcow_layer.proofs.Anew.{fresh_known}
@@ -29,6 +31,7 @@ use Rattle.chain_records.specs.Checks.{FirstIs, record_checks}
 use Rattle.chain_records.specs.Records.{records_in}
 use Rattle.chain_records.specs.declared.volume.Volume.{Volume}
 use Rattle.chain_records.proofs.Lists.{record_found}
+use Rattle.chain_gathering.specs.Kept.{AreValid}
 use Rattle.chain_gathering.specs.Knowing.{volumes_in}
 use Rattle.chain_gathering.proofs.Lists.{rising_none, rising_snoc}
 use Rattle.volume_chain.specs.Chain.{IsOpenAs, dir_in, image_in, place_in}
@@ -77,6 +80,9 @@ module _ (v : Id) (x : VolumeRecord) (base : IsBase x) where
 
   only_legal : (u : Id) → is_legal r u ≡ true → Contains (v ∷ []) u
   only_legal u = by_id (λ (o : Option VolumeRecord). holds_in legal_in o ≡ true → Contains (v ∷ []) u) u (λ e l. subst (λ (w : Id). Contains (v ∷ []) w) e (contains_here v [])) (λ n l. absurd (false≢true l))
+
+  pub valid : AreValid (volume ∷ [])
+  valid u = by_id (λ (o : Option VolumeRecord). (y : VolumeRecord) → o ≡ Some y → IsValid y) u (λ e y is. subst IsValid (same_Some x y is) base.valid) (λ n y is. absurd (none-some y is))
 
   pub reading : IsReading r v []
   reading = record {
@@ -151,7 +157,7 @@ module _ (t : Target) (v : Id) (x : VolumeRecord) (bytes host : ℕ) (d : Conten
       };
       there = refl;
     };
-    shape = record { checked = checked v x base; reading = (v, [], reading v x base, refl); each = (open_as (r v x base v) o (is_record v x base) fresh, tt) };
+    shape = record { valid = valid v x base; checked = checked v x base; reading = (v, [], reading v x base, refl); each = (open_as (r v x base v) o (is_record v x base) fresh, tt) };
     all = refl;
     known = (known o fresh, tt);
   }

@@ -20,6 +20,7 @@ use Rattle.chain_records.specs.Shown.{AreRead, IsShown}
 use Rattle.chain_records.specs.declared.volume.Volume.{Volume}
 use Rattle.chain_records.proofs.Opening.{refused_by_files, refused_by_records}
 use Rattle.chain_gathering.specs.Gathering as gather
+use Rattle.chain_gathering.specs.Kept.{AreValid}
 use Rattle.chain_gathering.specs.Knowing.{AreSettled, IsFirst, IsGathered, volumes_in}
 use Rattle.chain_gathering.specs.Names.{name_of}
 use Rattle.chain_gathering.specs.Stages.{GatheringTurn}
@@ -32,11 +33,11 @@ use Rattle.chain_gathering.specs.declared.stages.Stage as gathering_stages
 use Rattle.chain_gathering.specs.declared.stages.Stage.TheVariants as gathering_stage
 use Rattle.chain_gathering.specs.declared.names.VolumeName.TheVariants.{Data, Text}
 use Rattle.chain_gathering.proofs.Records.{gathered_read}
-use Rattle.volume_chain.specs.Chain.{dir_in, image_in, place_in}
+use Rattle.volume_chain.specs.Chain.{IsShaped, dir_in, image_in, place_in}
 use Rattle.volume_chain.specs.Checking.{IsChecked, IsCheckedBy, StageTurn, chain_along}
 use Rattle.volume_chain.specs.Knowing.{HaveLengths, IsOfImage, StageKnows}
 use Rattle.volume_chain.specs.Reached.{LacksMemory}
-use Rattle.volume_chain.specs.Stages.{IsMissing, IsNoFile, IsRefused, StageAfter, StageSteps}
+use Rattle.volume_chain.specs.Stages.{IsMissing, IsNoFile, IsRefused, KeepsShape, StageAfter, StageSteps}
 use Rattle.volume_chain.specs.declared.stages.Stage.TheVariants as stages
 use Rattle.volume_chain.specs.declared.chain.Target.{Target}
 use Rattle.volume_chain.specs.declared.volumes.OpenVolume.{OpenVolume}
@@ -80,11 +81,11 @@ framed t vols g host told turn d e on gone after = record {
 
 -- ---- there is more to gather
 
-pub more_gathers : (t : Target) (vols : List OpenVolume) (g next : Gathering) (host : ℕ) (d e : Content) → next.target ≡ g.target → Gathers g host (More next) d e
-    → StageSteps (stages.Gathering t vols g) host (More (stages.Gathering t vols next)) d e
-more_gathers t vols g next host d e same on =
+pub more_gathers : (t : Target) (vols : List OpenVolume) (g next : Gathering) (host : ℕ) (d e : Content) → next.target ≡ g.target → (gather.HasValidRecords g → gather.HasValidRecords next)
+    → Gathers g host (More next) d e → StageSteps (stages.Gathering t vols g) host (More (stages.Gathering t vols next)) d e
+more_gathers t vols g next host d e same valid on =
     framed t vols g host (More next) (More (stages.Gathering t vols next)) d e on tt
-    (λ x knows. (on.after knows.0, still_lengths t g host (More next) d e knows.2 on knows.1, still_image t g next same knows.2, knows.3))
+    (λ x knows. (on.after knows.0, still_lengths t g host (More next) d e knows.2 on knows.1, still_image t g next same valid knows.2, knows.3))
 
 -- ---- the gathering is refused
 
@@ -132,24 +133,24 @@ read_of t g kept e of is =
     subst (λ (i : Image). AreRead i (volumes_in (dir_in t) e) kept.records) of.image
     (subst (λ (q : Dir). AreRead (gathering.image_in g.target) (volumes_in q e) kept.records) of.folder (gathered_read g.target kept e is))
 
-begins_path : (t : Target) (xs : List Volume) (path : List Id) (vols : List OpenVolume) (host : ℕ) (e : Content) → vols ≡ [] → AreSettled (dir_in t) e → HaveLengths t e
+begins_path : (t : Target) (xs : List Volume) (path : List Id) (vols : List OpenVolume) (host : ℕ) (e : Content) → vols ≡ [] → AreValid xs → AreSettled (dir_in t) e → HaveLengths t e
     → IsShown (image_in t) (volumes_in (dir_in t) e) xs → FirstIs (records_in xs) (record_checks (ids_of xs)) None → IsReadingPath (records_in xs) path
     → StageKnows (stages.Along (chain_along t xs path vols)) host (volumes_in (dir_in t) e) e
-begins_path t xs path vols host e empty settled lengths shown checked reading =
+begins_path t xs path vols host e empty valid settled lengths shown checked reading =
     subst (λ (os : List OpenVolume). StageKnows (stages.Along (chain_along t xs path os)) host (volumes_in (dir_in t) e) e) (sym empty) (record {
       settled = settled;
       lengths = lengths;
       shown = shown;
       longer = longer_itself (volumes_in (dir_in t) e);
       same = λ v h. refl;
-      shape = record { checked = checked; reading = reading; each = tt };
+      shape = record { valid = valid; checked = checked; reading = reading; each = tt };
       passed = tt;
       known = tt;
     })
 
-pub done_gathers : (t : Target) (vols : List OpenVolume) (g : Gathering) (kept : Gathered) (host : ℕ) (turn : StageTurn) (d e : Content) → Gathers g host (Done kept) d e
-    → IsChecked t kept.records vols turn → StageSteps (stages.Gathering t vols g) host turn d e
-done_gathers t vols g kept host turn d e on checked = framed t vols g host (Done kept) turn d e on (gone (first_missing kept.records) turn checked) after
+pub done_gathers : (t : Target) (vols : List OpenVolume) (g : Gathering) (kept : Gathered) (host : ℕ) (turn : StageTurn) (d e : Content) → (gather.HasValidRecords g → AreValid kept.records)
+    → Gathers g host (Done kept) d e → IsChecked t kept.records vols turn → StageSteps (stages.Gathering t vols g) host turn d e
+done_gathers t vols g kept host turn d e valid on checked = framed t vols g host (Done kept) turn d e on (gone (first_missing kept.records) turn checked) after
   where
     gone : (o : Option Id) (turn : StageTurn) → IsCheckedBy t kept.records vols turn o → MatchTurn turn (λ _. Unit {0}) (λ _. Unit {0}) (λ _ refusal. IsNoFile (stages.Gathering t vols g) d refusal)
     gone (Some v) turn is = subst (λ (u : StageTurn). MatchTurn u (λ _. Unit {0}) (λ _. Unit {0}) (λ _ refusal. IsNoFile (stages.Gathering t vols g) d refusal)) (sym is) tt
@@ -181,4 +182,17 @@ done_gathers t vols g kept host turn d e on checked = framed t vols g host (Done
             (inr (settled, inr (refused_by_records (image_in t) y kept.records is.0 (record { read = read; there = missing }) is.1)))
         go None missing (inr is) =
             subst (λ (u : StageTurn). StageAfter t host y u e) (sym is.3)
-            (begins_path t kept.records is.0 vols host e knows.3 settled (still_lengths t g host (Done kept) d e knows.2 on knows.1) (record { read = read; there = missing }) is.1 is.2)
+            (begins_path t kept.records is.0 vols host e knows.3 (valid knows.2.valid) settled (still_lengths t g host (Done kept) d e knows.2 on knows.1) (record { read = read; there = missing }) is.1 is.2)
+
+-- so a chain begins that fits, whatever the disk tells
+pub done_shape : (t : Target) (vols : List OpenVolume) (g : Gathering) (kept : Gathered) (turn : StageTurn) → (gather.HasValidRecords g → AreValid kept.records) → IsChecked t kept.records vols turn
+    → KeepsShape (stages.Gathering t vols g) turn
+done_shape t vols g kept turn valid checked = go (first_missing kept.records) checked
+  where
+    go : (o : Option Id) → IsCheckedBy t kept.records vols turn o → KeepsShape (stages.Gathering t vols g) turn
+    go (Some v) is = subst (λ (u : StageTurn). KeepsShape (stages.Gathering t vols g) u) (sym is) tt
+    go None (inl is) = subst (λ (u : StageTurn). KeepsShape (stages.Gathering t vols g) u) (sym is.2) tt
+    go None (inr is) = subst (λ (u : StageTurn). KeepsShape (stages.Gathering t vols g) u) (sym is.3) (
+      refl,
+      λ shaped. subst (λ (os : List OpenVolume). IsShaped (chain_along t kept.records is.0 os)) (sym shaped.2) (record { valid = valid shaped.0.valid; checked = is.1; reading = is.2; each = tt }),
+    )

@@ -69,6 +69,7 @@ path_more c v o host x d next fits passed known knows =
       longer = knows.longer;
       same = knows.same;
       shape = record {
+        valid = knows.shape.valid;
         checked = knows.shape.checked;
         reading = knows.shape.reading;
         each = along_snoc _ c.path c.volumes v o next knows.shape.each fits;

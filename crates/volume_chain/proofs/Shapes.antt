@@ -87,6 +87,7 @@ all_open c shaped none = go (next_of c) refl
 -- one volume more is open as its record says
 pub shaped_more : (c : Chain) (v : Id) (o : OpenVolume) → IsShaped c → next_of c ≡ Some v → IsOpenAs c.target v (records_in c.records v) o → IsShaped (opened c o)
 shaped_more c v o shaped next is = rw next (record {
+  valid = shaped.valid;
   checked = shaped.checked;
   reading = shaped.reading;
   each = along_snoc _ c.path c.volumes v o next shaped.each is;

@@ -17,6 +17,7 @@ use Rattle.chain_records.specs.Checks.{FirstIs, record_checks}
 use Rattle.chain_records.specs.Paths.{IsReadingPath, capacity_in}
 use Rattle.chain_records.specs.Records.{ids_of, records_in}
 use Rattle.chain_records.specs.declared.volume.Volume.{Volume}
+use Rattle.chain_gathering.specs.Kept.{AreValid}
 use Rattle.volume_chain.specs.declared.chain.Chain.{Chain}
 use Rattle.volume_chain.specs.declared.chain.Kind.{Kind}
 use Rattle.volume_chain.specs.declared.chain.Kind.TheVariants as kind
@@ -100,8 +101,10 @@ OnPath R (v ∷ vs) (o ∷ os) = R v o × OnPath R vs os
 abbrev pub AreOpenAs : Target → Records → List Id → List OpenVolume → Type 0
 AreOpenAs t r path os = OnPath (λ v o. IsOpenAs t v (r v) o) path os
 
--- No check of the records refuses, the path is that of the reading volume, and its first volumes are open as their records say.
+-- Each record is valid and no check of them refuses, the path is that of the reading volume, and its first volumes are open as
+-- their records say.
 pub record IsShaped (c : Chain) : Type 0 where
+  pub valid : AreValid c.records
   pub checked : FirstIs (records_in c.records) (record_checks (ids_of c.records)) None
   pub reading : IsReadingPath (records_in c.records) c.path
   pub each : AreOpenAs c.target (records_in c.records) c.path c.volumes

@@ -6,6 +6,7 @@ use Rattle.sd_names.specs.declared.kinds.Format.{Format}
 use Rattle.sd_names.specs.declared.kinds.Format.TheVariants as format
 use Rattle.sd_names.specs.declared.kinds.Legality.TheVariants as legality
 use Rattle.shared_disk.specs.Content.{Content, File}
+use Rattle.volume_meta.specs.Valid.{IsValid}
 use Rattle.volume_meta.specs.declared.record.VolumeRecord.{VolumeRecord}
 use Rattle.layer_creating.specs.New.{IsCapacity, IsLength, IsNewLayer}
 use Rattle.qcow_layer.specs.Fresh.{IsFresh}
@@ -17,8 +18,9 @@ use Rattle.volume_chain.specs.declared.chain.Target.{Target}
 use Rattle.volume_chain.specs.declared.volumes.OpenVolume.{OpenVolume}
 use Rattle.volume_chain.specs.declared.volumes.OpenVolume.TheVariants.{Raw, Cow}
 
--- a LEGAL volume without a parent
+-- a valid record of a LEGAL volume without a parent
 pub record IsBase (x : VolumeRecord) : Type 0 where
+  pub valid : IsValid x
   pub legal : x.legality ≡ legality.Legal
   pub parent : x.parent ≡ zero_id
 

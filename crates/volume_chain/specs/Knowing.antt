@@ -92,10 +92,11 @@ KnowsLayerFile o host x d = (f : File) × (x.file (layer.target_of o).volume ≡
 
 -- ---- what holds in each stage, whatever the disk tells
 
--- what is gathered is this image, and no volume is open
+-- what is gathered is this image, and each record that was read is valid
 pub record IsOfImage (t : Target) (g : gathering.Gathering) : Type 0 where
   pub image : gather.image g ≡ image_in t
   pub folder : gather.folder g ≡ dir_in t
+  pub valid : gather.HasValidRecords g
 
 abbrev pub StageShaped : Stage → Type 0
 StageShaped (Gathering t volumes g) = IsOfImage t g × gather.IsInOrder g × (volumes ≡ [])

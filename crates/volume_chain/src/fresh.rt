@@ -38,10 +38,10 @@ fn fresh_volume(
 }
 
 impl Chain {
-    /// The chain of an image of one LEGAL volume without a parent, whose text says `meta` and whose file has `length` bytes:
-    /// a raw one of any length, or the layer that `Creating` makes without a backing file, in whole clusters of 65,536
-    /// bytes, 20 at least. All its memory is taken here, and it refuses only for want of it. It is true once the files are
-    /// made.
+    /// The chain of an image of one LEGAL volume without a parent, whose text says `meta`, each field in its range, and whose
+    /// file has `length` bytes: a raw one of any length, or the layer that `Creating` makes without a backing file, in whole
+    /// clusters of 65,536 bytes, 20 at least. All its memory is taken here, and it refuses only for want of it. It is true
+    /// once the files are made.
     pub fn fresh(
         alloc: Global,
         sd: Id,

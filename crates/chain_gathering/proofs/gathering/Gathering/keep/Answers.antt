@@ -7,10 +7,12 @@ use Rattle.sd_names.specs.declared.id.Id.{Id}
 use Rattle.sd_names.specs.declared.refusal.Refusal.TheVariants.{OutOfMemory}
 use Rattle.sd_names.specs.declared.turn.Turn.TheVariants.{Ended}
 use Rattle.volume_meta.specs.declared.record.VolumeRecord.{VolumeRecord}
+use Rattle.chain_gathering.specs.Kept.{AreValid}
 use Rattle.chain_gathering.specs.Stages.{KeepsRecord}
 use Rattle.chain_gathering.specs.Steps.{AreOfFound}
+use Rattle.chain_gathering.specs.declared.gathered.Gathered.{Gathered}
 use Rattle.chain_gathering.specs.declared.gathering.Gathering.{Gathering}
-use Rattle.chain_gathering.proofs.Reading.{kept_on, never_memory}
+use Rattle.chain_gathering.proofs.Reading.{kept_on, never_memory, valid_on}
 use Rattle.chain_gathering.proofs.gathering.Gathering.keep.Goals as goal
 
 -- where there is no memory for a record, the text has no fault
@@ -25,3 +27,6 @@ returns-in-Err-Memory-clause-turn c =
 
 pub returns-clause-order : goal.returns-clause-order
 returns-clause-order c are = subst AreOfFound (sym c.keep.ensures) (kept_on c.args.self.kept c.args.id c.in-Ok.record c.requires.next are)
+
+pub returns-clause-valid : goal.returns-clause-valid
+returns-clause-valid c are = subst (λ (k : Gathered). AreValid k.records) (sym c.keep.ensures) (valid_on c.args.self.kept c.args.id c.in-Ok.record c.in-Ok.ensures.valid are)

@@ -1,5 +1,6 @@
 use Rattle.std.proofs.Common.{ℕ, Option, refl, sym, subst, arith}
 use Rattle.sd_names.specs.declared.place.Name.{Name}
+use Rattle.chain_gathering.specs.Kept.{AreValid}
 use Rattle.chain_gathering.specs.Stages.{after_sync}
 use Rattle.chain_gathering.specs.Steps.{AreOfFound, IsNearer}
 use Rattle.chain_gathering.specs.declared.gathering.Gathering.{Gathering}
@@ -26,3 +27,11 @@ in_order g seen (Text v) are = found_on g.kept v seen.file are
 pub returns-in-Ok-clause-order : goal.returns-in-Ok-clause-order
 returns-in-Ok-clause-order g c are =
     subst (λ (next : Gathering). AreOfFound next.kept) (sym c.synced.ensures) (in_order c.args.self c.args.seen c.args.file are)
+
+still_valid : (g : Gathering) (seen : Seen) (o : VolumeName) → AreValid g.kept.records → AreValid (after_sync g seen o).kept.records
+still_valid g seen (Data v) are = are
+still_valid g seen (Text v) are = are
+
+pub returns-in-Ok-clause-valid : goal.returns-in-Ok-clause-valid
+returns-in-Ok-clause-valid g c are =
+    subst (λ (next : Gathering). AreValid next.kept.records) (sym c.synced.ensures) (still_valid c.args.self c.args.seen c.args.file are)
