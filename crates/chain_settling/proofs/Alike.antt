@@ -1,5 +1,5 @@
 -- An image reads alike where a step leaves its files, and where it rewrites a text.
-use Rattle.std.proofs.Common.{◌≡◌, ◌≢◌, ◌⊎◌, ℕ, Bool, true, false, Option, Some, None, Result, Ok, Err, refl, sym, ap, ◌∙◌, subst, inl, inr}
+use Rattle.std.proofs.Common.{◌≡◌, ◌≢◌, ◌⊎◌, Bool, true, false, Option, Some, None, Result, refl, sym, ap, ◌∙◌, subst, inl, inr}
 use Rattle.std.specs.Prelude.{option_and_then}
 use Rattle.std.specs.Option.{option_map}
 use Rattle.std.proofs.lemmas.Bool.{false≢true}
@@ -16,8 +16,12 @@ use Rattle.volume_texts.specs.Legible.{HasRecord}
 use Rattle.chain_model.specs.Folder.{Volumes}
 use Rattle.chain_model.specs.Records.{Image, Records, record_in, records_of, stored_text}
 use Rattle.chain_gathering.specs.Knowing.{volumes_in}
-use Rattle.chain_records.specs.Settling.{ArePartlyRewritten, IsRewritten}
-use Rattle.chain_settling.specs.Alike.{HoldsAlike, IsOfImage, ReadsAlike, file_in, text_in}
+use Rattle.chain_records.specs.Settling.{IsRewritten}
+use Rattle.qcow_layer.specs.declared.layer.Layer.{Layer}
+use Rattle.volume_chain.specs.declared.chain.Chain.{Chain}
+use Rattle.chain_settling.specs.Alike.{HoldsAlike, IsOfImage, ReadsAlike}
+use Rattle.chain_settling.specs.Steps.{IsLayerStep}
+use Rattle.chain_settling.specs.Was.{AreLeftAlone, IsLeftAlone, IsOffLayers, file_in, folder_in, text_in}
 
 -- what the text in a file says
 abbrev pub says_by : Image → Option File → Option VolumeRecord
@@ -83,3 +87,14 @@ alike_written i dir r x v y d e own f text is written a = record {
     at_record : (u : Id) → (u ≡ v) ⊎ (u ≢ v) → (records_of i (volumes_in dir e) u ≡ r u) ⊎ IsRewritten r u (r u) (records_of i (volumes_in dir e) u)
     at_record u (inl same) = subst (λ (w : Id). (records_of i (volumes_in dir e) w ≡ r w) ⊎ IsRewritten r w (r w) (records_of i (volumes_in dir e) w)) (sym same) now
     at_record u (inr other) = subst (λ (o : Option VolumeRecord). (o ≡ r u) ⊎ IsRewritten r u (r u) o) (sym (said_same i dir u d e (written.others u other))) (a.partly u)
+
+-- ---- files of layers
+
+-- a layer's file that stays
+pub no_step : (l : Layer) (o p : Option File) → p ≡ o → IsAlso (IsLayerStep l) o p
+no_step l None p same = subst (λ (q : Option File). IsAlso (IsLayerStep l) None q) (sym same) tt
+no_step l (Some f) p same = subst (λ (q : Option File). IsAlso (IsLayerStep l) (Some f) q) (sym same) (inl (inl refl))
+
+-- the files of volumes of which no layer is on the path stay alone
+pub alone_kept : (c : Chain) (x : Volumes) (d e : Content) → ((v : Id) → IsOffLayers c v → e.file (file_in (folder_in c) v) ≡ d.file (file_in (folder_in c) v)) → AreLeftAlone c x d → AreLeftAlone c x e
+alone_kept c x d e same alone v off = subst (λ (o : Option File). IsAlso IsLeftAlone (x.file v) o) (sym (same v off)) (alone v off)

@@ -1,17 +1,15 @@
 -- What is known as the rewriting of a text begins, and as a text stays.
-use Rattle.std.proofs.Common.{◌≡◌, ◌≢◌, ◌⊎◌, ℕ, ◌+◌, ◌<◌, ◌≤◌, List, length, Option, Some, None, refl, sym, ap, ◌∙◌, subst, inl, inr, arith}
+use Rattle.std.proofs.Common.{◌≡◌, ◌⊎◌, ℕ, ◌+◌, ◌<◌, ◌≤◌, List, length, Option, Some, None, refl, sym, ap, ◌∙◌, subst, inl, inr, arith}
 use Rattle.std.specs.Prelude.{slice_get}
 use Rattle.std.specs.Option.{option_map}
 use Rattle.std.proofs.lemmas.Bool.{cases_lt}
 use Rattle.std.proofs.lemmas.Option.{get_or_from_slice_get, none-some, same_Some, slice_get-map, slice_get_within}
-use Rattle.sd_names.specs.Id.{zero_id}
 use Rattle.sd_names.specs.declared.id.Id.{Id}
-use Rattle.sd_names.specs.declared.kinds.VolType.{VolType}
 use Rattle.sd_names.specs.Turn.{MatchTurn}
 use Rattle.sd_names.specs.declared.place.Place.{Place}
 use Rattle.sd_names.specs.declared.refusal.Refusal.TheVariants.{DiskFault}
 use Rattle.sd_names.specs.declared.turn.Turn.TheVariants.{More, Done}
-use Rattle.shared_disk.specs.Content.{Content, File}
+use Rattle.shared_disk.specs.Content.{Content}
 use Rattle.volume_meta.specs.Valid.{IsValid}
 use Rattle.volume_meta.specs.declared.record.VolumeRecord.{VolumeRecord}
 use Rattle.volume_meta.specs.Text.{volume_text}
@@ -20,33 +18,35 @@ use Rattle.volume_texts.specs.declared.write.TextWrite.{TextWrite}
 use Rattle.whole_file.specs.Replace.{IsReady}
 use Rattle.whole_file.specs.declared.replace.Stage.{Stage as ReplaceStage}
 use Rattle.whole_file.specs.declared.replace.Stage.TheVariants.{Begun}
-use Rattle.chain_model.specs.Chain.{IsBelow}
+use Rattle.qcow_layer.specs.Opening.{place_kept}
 use Rattle.chain_model.specs.Folder.{Volumes}
 use Rattle.chain_model.specs.Records.{Records}
-use Rattle.chain_model.specs.Up.{up_of}
-use Rattle.chain_records.specs.Records.{ids_of, records_in}
+use Rattle.chain_records.specs.Records.{files_of, ids_of, records_in}
 use Rattle.chain_records.specs.Rewriting.{changed, naming, typed}
-use Rattle.chain_records.specs.Settling.{ArePartlyRewritten, AreRewritten, HasPassedParent, IsOver, IsRewritten}
+use Rattle.chain_records.specs.Settling.{ArePartlyRewritten, AreRewritten, HasPassedParent, IsRewritten}
 use Rattle.chain_records.specs.declared.volume.Volume.{Volume}
 use Rattle.chain_records.proofs.Lists.{some_record}
 use Rattle.chain_records.proofs.Stepwise.{parent_step, parents_done, type_step}
+use Rattle.chain_gathering.specs.Steps.{IsShown}
 use Rattle.volume_chain.specs.Chain.{records_kept}
 use Rattle.volume_chain.specs.Parts.{version_of as chain_version, with_records}
 use Rattle.volume_chain.specs.declared.chain.Chain.{Chain}
-use Rattle.chain_settling.specs.Alike.{IsOfImage, KnowsImage, ReadsAlike, folder_in, image_kept}
+use Rattle.chain_settling.specs.Alike.{IsOfImage, KnowsImage, ReadsAlike}
+use Rattle.chain_settling.specs.Was.{folder_in, image_kept}
 use Rattle.chain_settling.specs.Begun.{IsBegunText, IsEndTurn}
 use Rattle.chain_settling.specs.Fit.{AreValid, IsFit, StageTurn, chain_in}
+use Rattle.chain_settling.specs.Left.{MeetsAt}
 use Rattle.chain_settling.specs.Knowing.{AreTo, IsDone, IsPartDone, IsSettledImage, IsTyped, KnowsTexts, KnowsWriting}
 use Rattle.chain_settling.specs.Steps.{KnowsStage, Settles, SettlesIn}
 use Rattle.chain_settling.specs.Work.{IsChange, IsIdAt, changed_to}
 use Rattle.chain_settling.specs.declared.stages.Part.{Part}
 use Rattle.chain_settling.specs.declared.stages.Part.TheVariants.{Parents, Types}
 use Rattle.chain_settling.specs.declared.stages.Stage.{Stage}
-use Rattle.chain_settling.specs.declared.stages.Stage.TheVariants.{Texts, Writing}
+use Rattle.chain_settling.specs.declared.stages.Stage.TheVariants.{Texts}
 use Rattle.chain_settling.specs.declared.texts.Change.{Change}
 use Rattle.chain_settling.specs.declared.texts.Change.TheVariants.{Parent, Voltype}
-use Rattle.chain_settling.proofs.Alike.{same_or_not}
-use Rattle.chain_settling.proofs.Plans.{changed_here, changed_there, done_on, names_up, parent_by, partly, place_of, right_before, stays_done, typed_on, was}
+use Rattle.chain_settling.proofs.Alike.{no_step}
+use Rattle.chain_settling.proofs.Plans.{changed_there, done_on, names_up, parent_by, partly, place_of, right_before, stays_done, typed_on, was}
 
 -- ---- records that are the same one by one
 
@@ -173,10 +173,10 @@ ready s host text place d e = subst (λ (z : ReplaceStage). IsReady z host text 
 
 pub text_begins : (c : Chain) (p : Part) (i host : ℕ) (v : Id) (change : Change) (xs : List Volume) (w : TextWrite) (r : Records) (x : Volumes) (d : Content) → KnowsTexts c p i host r x d
     → slice_get (ids_of (records_kept c)) i ≡ Some v → IsChange p (records_in (records_kept c)) v (Some change) → AreValid (with_records c xs)
-    → ids_of xs ≡ ids_of (records_kept c) → ((u : Id) → records_in xs u ≡ changed v (changed_to change) (records_in (records_kept c)) u)
+    → ids_of xs ≡ ids_of (records_kept c) → files_of xs ≡ files_of (records_kept c) → ((u : Id) → records_in xs u ≡ changed v (changed_to change) (records_in (records_kept c)) u)
     → (says : VolumeRecord) → records_in xs v ≡ Some says → file_of w ≡ text_place (folder_in c) v → volatile_of w ≡ new_place (folder_in c) v → version_of w ≡ chain_version c → stage_of w ≡ Begun
     → KnowsWriting (with_records c xs) p i w host r x d
-text_begins c p i host v change xs w r x d k at is valid ids same says here file volatile version begun = record {
+text_begins c p i host v change xs w r x d k at is valid ids files same says here file volatile version begun = record {
   image = record {
     folder = k.image.folder;
     chains = k.image.chains;
@@ -185,6 +185,18 @@ text_begins c p i host v change xs w r x d k at is valid ids same says here file
     kept = λ u y e. let z = was v (changed_to change) s u y (sym (same u) ∙ e) in k.image.kept u z.0 z.1;
     legible = λ u y e. let z = was v (changed_to change) s u y (sym (same u) ∙ e) in of_image u y e z.0 (k.image.legible u z.0 z.1) z.2;
     cows = k.image.cows;
+    was = record {
+      first = k.image.was.first;
+      shown = k.image.was.shown;
+      records = k.image.was.records;
+      ids = ids ∙ k.image.was.ids;
+      files = files ∙ k.image.was.files;
+      checked = k.image.was.checked;
+      reading = k.image.was.reading;
+      all = k.image.was.all;
+      each = k.image.was.each;
+    };
+    alone = k.image.alone;
   };
   volume = v;
   at = ap (λ (vs : List Id). slice_get vs i) ids ∙ at;
@@ -214,15 +226,16 @@ text_begins c p i host v change xs w r x d k at is valid ids same says here file
 pub id_at : (c : Chain) (i : ℕ) (v : Id) → IsIdAt c i v → slice_get (ids_of (records_kept c)) i ≡ Some v
 id_at c i v is = slice_get-map (λ (y : Volume). y.id) (records_kept c) i ∙ ap (λ (o : Option Volume). option_map (λ (y : Volume). y.id) o) is.1 ∙ ap (λ (u : Id). Some u) is.2
 
-nothing_done : (s : Stage) (host faults : ℕ) (r : Records) (x : Volumes) (turn : StageTurn) (d : Content) → ReadsAlike (image_kept (chain_in s)) (folder_in (chain_in s)) r x d
+nothing_done : (s : Stage) (host faults : ℕ) (r : Records) (x : Volumes) (turn : StageTurn) (d : Content) → MeetsAt (IsShown (folder_in (chain_in s)) d) s turn
+    → ReadsAlike (image_kept (chain_in s)) (folder_in (chain_in s)) r x d
     → MatchTurn turn (λ next. KnowsStage next host r x d) (λ c. IsSettledImage c host r x d) (λ _ refusal. refusal ≡ DiskFault faults) → Settles s host faults r x turn d d
-nothing_done s host faults r x turn d alike after = record { dirs = λ q. refl; others = λ q _. refl; alike = alike; after = after }
+nothing_done s host faults r x turn d shows alike after = record { shows = shows; dirs = λ q. refl; others = λ q _. refl; kept = λ q _. refl; layers = λ b l _. no_step l (d.file (place_kept l)) (d.file (place_kept l)) refl; alike = alike; after = after }
 
 pub list_ends : (c : Chain) (p : Part) (i : ℕ) (turn : StageTurn) → length (records_kept c) ≤ i → IsEndTurn c p turn → (host faults : ℕ) (d : Content) → SettlesIn (Texts c p i) host faults turn d d
 list_ends c Parents i turn past is host faults d r x k =
-    subst (λ (t : StageTurn). Settles (Texts c Parents i) host faults r x t d d) (sym is) (nothing_done (Texts c Parents i) host faults r x (More (Texts c Types 0)) d k.image.alike (parents_end c i host r x d past k))
+    subst (λ (t : StageTurn). Settles (Texts c Parents i) host faults r x t d d) (sym is) (nothing_done (Texts c Parents i) host faults r x (More (Texts c Types 0)) d tt k.image.alike (parents_end c i host r x d past k))
 list_ends c Types i turn past is host faults d r x k =
-    subst (λ (t : StageTurn). Settles (Texts c Types i) host faults r x t d d) (sym is) (nothing_done (Texts c Types i) host faults r x (Done c) d k.image.alike (types_end c i host r x d past k))
+    subst (λ (t : StageTurn). Settles (Texts c Types i) host faults r x t d d) (sym is) (nothing_done (Texts c Types i) host faults r x (Done c) d tt k.image.alike (types_end c i host r x d past k))
 
 -- a volume of the list has a record
 pub record_of : (c : Chain) (i : ℕ) (v : Id) → IsIdAt c i v → (y : VolumeRecord) × (records_in (records_kept c) v ≡ Some y)
@@ -234,12 +247,12 @@ pub volume_stays : (c : Chain) (p : Part) (i : ℕ) (v : Id) → IsIdAt c i v �
     → SettlesIn (Texts c p i) host faults (More (Texts c p (i + 1))) d d
 volume_stays c p i v at none host faults d r x k =
     let there = record_of c i v at in
-    nothing_done (Texts c p i) host faults r x (More (Texts c p (i + 1))) d k.image.alike (text_stays c p i host v r x d k (id_at c i v at) none there.0 there.1)
+    nothing_done (Texts c p i) host faults r x (More (Texts c p (i + 1))) d tt k.image.alike (text_stays c p i host v r x d k (id_at c i v at) none there.0 there.1)
 
 pub volume_changes : (c : Chain) (p : Part) (i : ℕ) (v : Id) (change : Change) (s : Stage) → IsIdAt c i v → IsChange p (records_in (records_kept c)) v (Some change) → IsFit s → IsBegunText c p i v change s
     → (host faults : ℕ) (d : Content) → SettlesIn (Texts c p i) host faults (More s) d d
 volume_changes c p i v change s at is fit begun host faults d r x k =
     let valid : AreValid (with_records c begun.kept) = subst (λ (z : Stage). AreValid (chain_in z)) begun.stage fit.valid in
-    nothing_done (Texts c p i) host faults r x (More s) d k.image.alike
+    nothing_done (Texts c p i) host faults r x (More s) d tt k.image.alike
     (subst (λ (z : Stage). KnowsStage z host r x d) (sym begun.stage)
-    (text_begins c p i host v change begun.kept begun.write r x d k (id_at c i v at) is valid begun.ids begun.records begun.says begun.is begun.file begun.volatile begun.version begun.begun))
+    (text_begins c p i host v change begun.kept begun.write r x d k (id_at c i v at) is valid begun.ids begun.files begun.records begun.says begun.is begun.file begun.volatile begun.version begun.begun))

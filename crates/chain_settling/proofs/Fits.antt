@@ -1,10 +1,9 @@
 -- A chain of which a layer was changed fits as it did.
-use Rattle.std.proofs.Common.{◌≡◌, ◌<◌, ◌^◌, ℕ, List, length, Some, sym, ap, ◌∙◌, subst}
-use Rattle.volume_meta.specs.declared.record.VolumeRecord.{VolumeRecord}
+use Rattle.std.proofs.Common.{◌≡◌, ◌<◌, ◌^◌, ℕ, List, length, sym, ap, ◌∙◌, subst}
 use Rattle.layer_heading.specs.declared.rebasing.Rebasing.{Rebasing}
 use Rattle.chain_records.specs.Records.{records_in}
 use Rattle.chain_records.specs.declared.volume.Volume.{Volume}
-use Rattle.volume_chain.specs.Chain.{open_in, records_kept}
+use Rattle.volume_chain.specs.Chain.{records_kept}
 use Rattle.volume_chain.specs.declared.chain.Chain.{Chain}
 use Rattle.chain_settling.specs.Fit.{AreValid, IsFit, IsSameChain}
 use Rattle.chain_settling.specs.declared.stages.Stage.TheVariants.{Headers, Heading}

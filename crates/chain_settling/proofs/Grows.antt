@@ -18,7 +18,7 @@ use Rattle.shared_disk.proofs.Toolkit.{grown_settled}
 use Rattle.qcow_layer.specs.Knowing.{KnowsLayer}
 use Rattle.qcow_layer.specs.Opening.{parent_kept, place_kept, volume_kept}
 use Rattle.qcow_layer.specs.declared.layer.Layer.{Layer}
-use Rattle.settling_steps.specs.Leftovers.{After, IsTidy, TidyLeaves, TidyTurn, folder_of, temporary_in}
+use Rattle.settling_steps.specs.Leftovers.{After, IsTidy, Meets, TidyLeaves, TidyTurn, folder_of, temporary_in}
 use Rattle.settling_steps.specs.Lengthening.{IsGrownFile, IsWhole, KnowsLong, LengthTurn, Lengthens}
 use Rattle.settling_steps.specs.Lengthening as lengthening
 use Rattle.settling_steps.specs.declared.lengthening.Lengthening.{Lengthening}
@@ -30,25 +30,28 @@ use Rattle.chain_model.specs.Folder.{Volumes}
 use Rattle.chain_model.specs.Growth.{MayGrow}
 use Rattle.chain_model.specs.Records.{Records}
 use Rattle.chain_records.specs.Records.{records_in}
-use Rattle.chain_records.specs.Settling.{IsOver, IsRewritten}
+use Rattle.chain_records.specs.Settling.{IsRewritten}
 use Rattle.volume_meta.specs.declared.record.VolumeRecord.{VolumeRecord}
 use Rattle.chain_model.proofs.LongerFiles.{own_grown}
 use Rattle.chain_model.proofs.LongerOutcomes.{outcome_before}
+use Rattle.chain_gathering.specs.Steps.{IsShown}
 use Rattle.volume_chain.specs.Chain.{open_in, records_kept}
 use Rattle.volume_chain.specs.declared.chain.Chain.{Chain}
 use Rattle.volume_chain.specs.declared.volumes.OpenVolume.{OpenVolume}
 use Rattle.volume_chain.specs.declared.volumes.OpenVolume.TheVariants.{Cow, Raw}
-use Rattle.chain_settling.specs.Alike.{HoldsAlike, KnowsImage, ReadsAlike, file_in, folder_in, image_kept, text_in}
+use Rattle.chain_settling.specs.Alike.{HoldsAlike, KnowsImage, ReadsAlike}
+use Rattle.chain_settling.specs.Was.{file_in, folder_in, image_kept, text_in}
 use Rattle.chain_settling.specs.Fit.{StageTurn}
-use Rattle.chain_settling.specs.Knowing.{AreLongFrom, AreWholeTo, IsSettledImage, KnowsFiles, KnowsHeaders, KnowsLayers, KnowsLengthening, KnowsLengths, KnowsSettled, KnowsTexts, KnowsTidying, TellsUp}
-use Rattle.chain_settling.specs.Steps.{KnowsStage, Settles}
+use Rattle.chain_settling.specs.Knowing.{AreLongFrom, AreWholeTo, IsSettledImage, KnowsFiles, KnowsHeaders, KnowsLayers, KnowsLengthening, KnowsLengths, KnowsSettled, KnowsTexts, TellsUp}
+use Rattle.chain_settling.specs.Left.{MeetsAt}
+use Rattle.chain_settling.specs.Steps.{IsLayerStep, IsOther, KnowsStage, Settles}
 use Rattle.chain_settling.specs.Work.{IsBackingFor, IsLayerAt, kind_at, kind_of}
 use Rattle.chain_settling.specs.declared.lengths.Kind.{Kind}
 use Rattle.chain_settling.specs.declared.lengths.Kind.TheVariants as kind
 use Rattle.chain_settling.specs.declared.stages.Part.TheVariants.{Parents}
 use Rattle.chain_settling.specs.declared.stages.Stage.TheVariants as stages
 use Rattle.chain_settling.proofs.Plans.{over_after}
-use Rattle.chain_settling.proofs.Alike.{AreKept, alike_kept, said_same, same_or_not}
+use Rattle.chain_settling.proofs.Alike.{AreKept, alike_kept, alone_kept, no_step, said_same, same_or_not}
 
 -- ---- temporary names
 
@@ -61,7 +64,7 @@ file_not_temporary dir v (New u) same = let h : name.Volume v ≡ name.MetaNew u
 file_not_temporary dir v (Volatile u) same = let h : name.Volume v ≡ name.MetaVolatile u = ap (λ (p : Place). p.name) same in absurd cc
 
 -- what is known of an image stays where its volumes' files and texts do
-image_kept_on : (c : Chain) (r : Records) (x : Volumes) (d e : Content) → e.dir (folder_in c) ≡ d.dir (folder_in c) → AreKept (folder_in c) d e → KnowsImage c r x d → KnowsImage c r x e
+pub image_kept_on : (c : Chain) (r : Records) (x : Volumes) (d e : Content) → e.dir (folder_in c) ≡ d.dir (folder_in c) → AreKept (folder_in c) d e → KnowsImage c r x d → KnowsImage c r x e
 image_kept_on c r x d e dir kept k = record {
   folder = dir ∙ k.folder;
   chains = k.chains;
@@ -70,22 +73,24 @@ image_kept_on c r x d e dir kept k = record {
   kept = k.kept;
   legible = k.legible;
   cows = k.cows;
+  was = k.was;
+  alone = alone_kept c x d e (λ v off. kept.files v) k.alone;
 }
 
 pub settled_kept : (c : Chain) (host : ℕ) (l : Layer) (d e : Content) → e.file (place_kept l) ≡ d.file (place_kept l) → KnowsSettled c l host d → KnowsSettled c l host e
 settled_kept c host l d e same k = record { place = k.place; file = k.file; there = same ∙ k.there; knows = k.knows; settled = k.settled }
 
-long_kept : (host : ℕ) (l : Layer) (d e : Content) → e.file (place_kept l) ≡ d.file (place_kept l) → KnowsLong l host d → KnowsLong l host e
+pub long_kept : (host : ℕ) (l : Layer) (d e : Content) → e.file (place_kept l) ≡ d.file (place_kept l) → KnowsLong l host d → KnowsLong l host e
 long_kept host l d e same k = record { file = k.file; there = same ∙ k.there; knows = k.knows; room = k.room }
 
 pub whole_kept : (host : ℕ) (l : Layer) (d e : Content) → e.file (place_kept l) ≡ d.file (place_kept l) → IsWhole l host d → IsWhole l host e
 whole_kept host l d e same k = record { file = k.file; there = same ∙ k.there; knows = k.knows; whole = k.whole }
 
 -- a layer's file is that of a volume of the image
-at_place : (c : Chain) (host : ℕ) (d e : Content) → KnowsLayers c host d → AreKept (folder_in c) d e → (b : ℕ) (l : Layer) → IsLayerAt c b l → e.file (place_kept l) ≡ d.file (place_kept l)
+pub at_place : (c : Chain) (host : ℕ) (d e : Content) → KnowsLayers c host d → AreKept (folder_in c) d e → (b : ℕ) (l : Layer) → IsLayerAt c b l → e.file (place_kept l) ≡ d.file (place_kept l)
 at_place c host d e k kept b l is = subst (λ (p : Place). e.file p ≡ d.file p) (sym (k.each b l is).place) (kept.files (volume_kept l))
 
-files_kept : (c : Chain) (host : ℕ) (r : Records) (x : Volumes) (d e : Content) → e.dir (folder_in c) ≡ d.dir (folder_in c) → AreKept (folder_in c) d e → KnowsFiles c host r x d → KnowsFiles c host r x e
+pub files_kept : (c : Chain) (host : ℕ) (r : Records) (x : Volumes) (d e : Content) → e.dir (folder_in c) ≡ d.dir (folder_in c) → AreKept (folder_in c) d e → KnowsFiles c host r x d → KnowsFiles c host r x e
 files_kept c host r x d e dir kept k = record {
   image = image_kept_on c r x d e dir kept k.image;
   said = λ v. said_same (image_kept c) (folder_in c) v d e (kept.texts v) ∙ k.said v;
@@ -97,12 +102,15 @@ tidied_turn c (More t) = More (stages.Tidying c t)
 tidied_turn c (Done u) = More (stages.Lengths c 0)
 tidied_turn c (Ended u refusal) = Ended tt refusal
 
-pub tidying_settles : (c : Chain) (t : Tidying) (host faults : ℕ) (turn : TidyTurn) (d e : Content) → IsWellFormed e → TidyLeaves t faults turn d e
+pub tidying_settles : (c : Chain) (t : Tidying) (host faults : ℕ) (turn : TidyTurn) (d e : Content) → IsWellFormed e → TidyLeaves t faults turn d e → Meets (IsShown (folder_of t) d) t turn
     → (same : MatchTurn turn (λ next. folder_of next ≡ folder_of t) (λ _. Unit {0}) (λ _ _. Unit {0})) → (r : Records) (x : Volumes)
     → KnowsStage (stages.Tidying c t) host r x d → Settles (stages.Tidying c t) host faults r x (tidied_turn c turn) d e
-tidying_settles c t host faults turn d e formed leaves same r x k = record {
+tidying_settles c t host faults turn d e formed leaves shows same r x k = record {
+  shows = shown turn (subst (λ (dir : Dir). Meets (IsShown dir d) t turn) k.folder shows);
   dirs = leaves.dirs;
   others = λ q other. leaves.others q (λ o e. other (ap (λ (z : Place). z.dir) e ∙ k.folder));
+  kept = λ q other. leaves.others q (λ o e. other.temporary o (e ∙ ap (λ (dir : Dir). temporary_in dir o) k.folder));
+  layers = λ b l is. no_step l (d.file (place_kept l)) (e.file (place_kept l)) (at_place c host d e k.files.layers kept b l is);
   alike = alike_kept (image_kept c) (folder_in c) r x d e kept k.files.image.alike;
   after = go turn same (leaves.after k.names);
 }
@@ -112,6 +120,11 @@ tidying_settles c t host faults turn d e formed leaves same r x k = record {
       texts = λ v. leaves.others (text_in (folder_in c) v) (λ o is. text_not_temporary (folder_in c) v o (is ∙ ap (λ (dir : Dir). temporary_in dir o) k.folder));
       files = λ v. leaves.others (file_in (folder_in c) v) (λ o is. file_not_temporary (folder_in c) v o (is ∙ ap (λ (dir : Dir). temporary_in dir o) k.folder));
     }
+
+    shown : (turn : TidyTurn) → Meets (IsShown (folder_in c) d) t turn → MeetsAt (IsShown (folder_in c) d) (stages.Tidying c t) (tidied_turn c turn)
+    shown (More next) is = is
+    shown (Done u) is = tt
+    shown (Ended u refusal) is = tt
 
     files : KnowsFiles c host r x e
     files = files_kept c host r x d e (leaves.dirs (folder_in c)) kept k.files
@@ -214,6 +227,8 @@ module _ (c : Chain) (at : ℕ) (m : Layer) (l : Lengthening) (host faults : ℕ
     kept = k.files.image.kept;
     legible = k.files.image.legible;
     cows = k.files.image.cows;
+    was = k.files.image.was;
+    alone = alone_kept c x d e (λ v off. file_same v (λ same. off at m is (sym same))) k.files.image.alone;
   }
 
   pub outside : (q : Place) → q.dir ≢ dir → e.file q ≡ d.file q
@@ -225,6 +240,21 @@ module _ (c : Chain) (at : ℕ) (m : Layer) (l : Lengthening) (host faults : ℕ
 
   one_layer : (n : Layer) → IsLayerAt c at n → n ≡ m
   one_layer n at_n = let h : Some (Cow n) ≡ Some (Cow m) = sym at_n ∙ is in cc
+
+  pub kept_others : (q : Place) → IsOther c q → e.file q ≡ d.file q
+  kept_others q other = elsewhere q (other.layer at m is)
+
+  pub each_step : (b : ℕ) (n : Layer) → IsLayerAt c b n → IsAlso (IsLayerStep n) (d.file (place_kept n)) (e.file (place_kept n))
+  each_step b n at_b = go (nat_cases b at)
+    where
+      own : IsAlso (IsLayerStep m) (d.file (place_kept m)) (e.file (place_kept m))
+      own =
+          subst (λ (o : Option File). IsAlso (IsLayerStep m) o (e.file (place_kept m))) (sym known.there)
+          (subst (λ (o : Option File). IsAlso (IsLayerStep m) (Some known.file) o) (sym here.1) (inl here.2))
+
+      go : (b ≡ at) ⊎ (b ≢ at) → IsAlso (IsLayerStep n) (d.file (place_kept n)) (e.file (place_kept n))
+      go (inl same) = subst (λ (z : Layer). IsAlso (IsLayerStep z) (d.file (place_kept z)) (e.file (place_kept z))) (sym (one_layer n (subst (λ (i : ℕ). IsLayerAt c i n) same at_b))) own
+      go (inr other) = no_step n (d.file (place_kept n)) (e.file (place_kept n)) (other_place b n at_b other)
 
   -- the layer knows its file still
   layers : ((f : File) × (e.file (place_kept m) ≡ Some f) × KnowsLayer m host f) → KnowsLayers c host e
@@ -287,20 +317,29 @@ lengthening_settles c at l host faults turn d e formed formed_then each r x k = 
   where
     go : (turn : LengthTurn) → Lengthens l k.layer host faults turn d e → Settles (stages.Lengthening c at l) host faults r x (grown_turn c at turn) d e
     go (More next) leaves = record {
+      shows = tt;
       dirs = leaves.dirs;
       others = outside c at k.layer l host faults r x (More next) d e k.is formed k leaves;
+      kept = kept_others c at k.layer l host faults r x (More next) d e k.is formed k leaves;
+      layers = each_step c at k.layer l host faults r x (More next) d e k.is formed k leaves;
       alike = alike c at k.layer l host faults r x (More next) d e k.is formed k leaves;
       after = goes_on c at k.layer l host faults r x (More next) d e k.is formed k leaves next (leaves.after k.here);
     }
     go (Done u) leaves = record {
+      shows = tt;
       dirs = leaves.dirs;
       others = outside c at k.layer l host faults r x (Done u) d e k.is formed k leaves;
+      kept = kept_others c at k.layer l host faults r x (Done u) d e k.is formed k leaves;
+      layers = each_step c at k.layer l host faults r x (Done u) d e k.is formed k leaves;
       alike = alike c at k.layer l host faults r x (Done u) d e k.is formed k leaves;
       after = ends c at k.layer l host faults r x (Done u) d e k.is formed k leaves formed_then (leaves.after k.here);
     }
     go (Ended u refusal) leaves = record {
+      shows = tt;
       dirs = leaves.dirs;
       others = outside c at k.layer l host faults r x (Ended u refusal) d e k.is formed k leaves;
+      kept = kept_others c at k.layer l host faults r x (Ended u refusal) d e k.is formed k leaves;
+      layers = each_step c at k.layer l host faults r x (Ended u refusal) d e k.is formed k leaves;
       alike = alike c at k.layer l host faults r x (Ended u refusal) d e k.is formed k leaves;
       after = leaves.after k.here;
     }
@@ -308,7 +347,7 @@ lengthening_settles c at l host faults turn d e formed formed_then each r x k = 
 -- ---- the next layer of the path
 
 -- a list has an element at each place within it
-there : {A : Type 0} (xs : List A) (i : ℕ) → i < length xs → slice_get xs i ≡ None → ⊥
+pub there : {A : Type 0} (xs : List A) (i : ℕ) → i < length xs → slice_get xs i ≡ None → ⊥
 there [] i low e = omega (arith, low)
 there (y ∷ ys) zero low e = none-some y (sym e)
 there (y ∷ ys) (suc i) low e = there ys i (omega (arith, low)) e
@@ -320,8 +359,11 @@ next_length c at (Cow m) = More (stages.Lengthening c at Asking)
 pub lengths_go_on : (c : Chain) (at : ℕ) (host faults : ℕ) (d : Content) (o : OpenVolume) → slice_get (open_in c) at ≡ Some o → (r : Records) (x : Volumes) → KnowsStage (stages.Lengths c at) host r x d
     → Settles (stages.Lengths c at) host faults r x (next_length c at o) d d
 lengths_go_on c at host faults d (Raw length) is r x k = record {
+  shows = tt;
   dirs = λ q. refl;
   others = λ q _. refl;
+  kept = λ q _. refl;
+  layers = λ b l _. no_step l (d.file (place_kept l)) (d.file (place_kept l)) refl;
   alike = k.files.image.alike;
   after = record {
     files = k.files;
@@ -336,8 +378,11 @@ lengths_go_on c at host faults d (Raw length) is r x k = record {
     go b n low at_b (inl same) = let h : Some (Cow n) ≡ Some (Raw length) = sym at_b ∙ ap (λ (i : ℕ). slice_get (open_in c) i) same ∙ is in absurd cc
     go b n low at_b (inr other) = k.whole b n (omega (arith, low, other)) at_b
 lengths_go_on c at host faults d (Cow m) is r x k = record {
+  shows = tt;
   dirs = λ q. refl;
   others = λ q _. refl;
+  kept = λ q _. refl;
+  layers = λ b l _. no_step l (d.file (place_kept l)) (d.file (place_kept l)) refl;
   alike = k.files.image.alike;
   after = record {
     files = k.files;
@@ -353,8 +398,11 @@ lengths_go_on c at host faults d (Cow m) is r x k = record {
 pub lengths_end : (c : Chain) (at : ℕ) (host faults : ℕ) (d : Content) → slice_get (open_in c) at ≡ None → (r : Records) (x : Volumes) → KnowsStage (stages.Lengths c at) host r x d
     → Settles (stages.Lengths c at) host faults r x (More (stages.Headers c 0)) d d
 lengths_end c at host faults d none r x k = record {
+  shows = tt;
   dirs = λ q. refl;
   others = λ q _. refl;
+  kept = λ q _. refl;
+  layers = λ b l _. no_step l (d.file (place_kept l)) (d.file (place_kept l)) refl;
   alike = k.files.image.alike;
   after = record { image = k.files.image; said = k.files.said; tidy = k.tidy; formed = k.formed; told = λ b l low is. absurd (omega (arith, low)); rest = record { layers = k.files.layers; whole = λ b n at_b. go b n at_b (cases_lt b at) } };
 }
@@ -405,7 +453,7 @@ none_at c at is = go (slice_get (open_in c) at) refl is
 
 pub headers_turn : (c : Chain) (at : ℕ) (host faults : ℕ) (d : Content) (turn : StageTurn) → ((r : Records) (x : Volumes) → KnowsHeaders c at host r x d → MatchTurn turn (λ next. KnowsStage next host r x d) (λ z. IsSettledImage z host r x d) (λ _ refusal. refusal ≡ DiskFault faults))
     → (r : Records) (x : Volumes) → KnowsStage (stages.Headers c at) host r x d → Settles (stages.Headers c at) host faults r x turn d d
-headers_turn c at host faults d turn after r x k = record { dirs = λ q. refl; others = λ q _. refl; alike = k.image.alike; after = after r x k }
+headers_turn c at host faults d turn after r x k = record { shows = tt; dirs = λ q. refl; others = λ q _. refl; kept = λ q _. refl; layers = λ b l _. no_step l (d.file (place_kept l)) (d.file (place_kept l)) refl; alike = k.image.alike; after = after r x k }
 
 pub headers_end : (c : Chain) (at host : ℕ) (r : Records) (x : Volumes) (d : Content) → kind_at c at ≡ kind.End → KnowsHeaders c at host r x d → KnowsTexts c Parents 0 host r x d
 headers_end c at host r x d end k = record {

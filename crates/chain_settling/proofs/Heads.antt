@@ -1,7 +1,7 @@
 -- What is known while the header of a layer of the path is rewritten.
-use Rattle.std.proofs.Common.{◌≡◌, ◌≢◌, ◌⊎◌, ℕ, zero, suc, ◌+◌, ◌*◌, ◌%◌, ◌^◌, ◌<◌, List, [], ◌∷◌, length, Option, Some, None, Result, Ok, Err, refl, sym, ap, ◌∙◌, subst, inl, inr, arith}
+use Rattle.std.proofs.Common.{◌≡◌, ◌≢◌, ◌⊎◌, ℕ, zero, suc, ◌+◌, ◌*◌, ◌%◌, ◌^◌, ◌<◌, List, [], ◌∷◌, length, Option, Some, None, Ok, refl, sym, ap, ◌∙◌, subst, inl, inr, arith}
 use Rattle.std.specs.Prelude.{slice_get, slice_set}
-use Rattle.std.proofs.lemmas.Option.{slice_get_within}
+use Rattle.std.proofs.lemmas.Option.{same_Some, slice_get_within}
 use Rattle.sd_names.specs.Turn.{MatchTurn}
 use Rattle.sd_names.specs.declared.id.Id.{Id}
 use Rattle.sd_names.specs.declared.place.Dir.{Dir}
@@ -42,18 +42,20 @@ use Rattle.chain_model.specs.Own.{own_by}
 use Rattle.chain_model.specs.Records.{Records}
 use Rattle.chain_records.specs.Records.{records_in}
 use Rattle.chain_records.specs.Settling.{IsOver, IsRewritten}
-use Rattle.volume_chain.specs.Chain.{open_in, records_kept}
+use Rattle.volume_chain.specs.Chain.{IsOpenAs, open_in, path_in, records_kept, target_of}
 use Rattle.volume_chain.specs.Parts.{with_open, with_volumes}
 use Rattle.volume_chain.specs.declared.chain.Chain.{Chain}
+use Rattle.volume_chain.specs.declared.chain.Target as chains
 use Rattle.volume_chain.specs.declared.volumes.OpenVolume.{OpenVolume}
 use Rattle.volume_chain.specs.declared.volumes.OpenVolume.TheVariants.{Cow, Raw}
-use Rattle.chain_settling.specs.Alike.{HoldsAlike, IsCow, IsCowOf, IsSaid, KnowsImage, ReadsAlike, file_in, folder_in, image_kept, text_in}
+use Rattle.chain_settling.specs.Alike.{HoldsAlike, IsCow, IsCowOf, IsSaid, KnowsImage, ReadsAlike}
+use Rattle.chain_settling.specs.Was.{IsLeftAlone, IsOffLayers, WasLong, file_in, folder_in, image_kept, text_in}
 use Rattle.chain_settling.specs.Fit.{StageTurn}
 use Rattle.chain_settling.specs.Knowing.{IsHeadOf, KnowsHeaders, KnowsHeading, KnowsSettled, TellsUp}
-use Rattle.chain_settling.specs.Steps.{KnowsStage, RebasesAt, Settles}
+use Rattle.chain_settling.specs.Steps.{IsLayerStep, IsOther, KnowsStage, RebasesAt, Settles}
 use Rattle.chain_settling.specs.Work.{IsBackingFor, IsLayerAt}
 use Rattle.chain_settling.specs.declared.stages.Stage.TheVariants as stages
-use Rattle.chain_settling.proofs.Alike.{said_same, same_or_not}
+use Rattle.chain_settling.proofs.Alike.{no_step, said_same, same_or_not}
 use Rattle.chain_settling.proofs.Grows.{file_not_text, files_apart, nat_cases, temporary_not_file, whole_kept}
 use Rattle.chain_settling.proofs.Plans.{over_before, over_one}
 use Rattle.chain_settling.proofs.Held.{held_alike}
@@ -71,6 +73,16 @@ set_other (y ∷ ys) zero zero v other = absurd (other refl)
 set_other (y ∷ ys) zero (suc b) v other = refl
 set_other (y ∷ ys) (suc i) zero v other = refl
 set_other (y ∷ ys) (suc i) (suc b) v other = set_other ys i b v (λ same. other (ap suc same))
+
+set_length : {A : Type 0} (xs : List A) (i : ℕ) (v : A) → length (slice_set xs i v) ≡ length xs
+set_length [] i v = refl
+set_length (y ∷ ys) zero v = refl
+set_length (y ∷ ys) (suc i) v = ap suc (set_length ys i v)
+
+-- a layer that is open for the same volume is open as that one
+same_target : (t : chains.Target) (u : Id) (o : Option VolumeRecord) (m after : Layer) → target_kept after ≡ target_kept m → IsOpenAs t u o (Cow m) → IsOpenAs t u o (Cow after)
+same_target t u None m after same is = is
+same_target t u (Some y) m after same is = (is.0, same ∙ is.1)
 
 -- ---- what a layer holds over another backing file
 
@@ -216,14 +228,61 @@ module _ (c : Chain) (at : ℕ) (h : Rebasing) (after : Layer) (host faults : �
     kept = k.image.kept;
     legible = k.image.legible;
     cows = λ b l is. cow b l is (nat_cases b at);
+    was = record {
+      first = k.image.was.first;
+      shown = k.image.was.shown;
+      records = k.image.was.records;
+      ids = k.image.was.ids;
+      files = k.image.was.files;
+      checked = k.image.was.checked;
+      reading = k.image.was.reading;
+      all = set_length (open_in c) at (Cow after) ∙ k.image.was.all;
+      each = λ b u o path is. open_as b u o path is (nat_cases b at);
+    };
+    alone = λ u off. subst (λ (o : Option File). IsAlso IsLeftAlone (x.file u) o) (sym (file_same u (λ same. off_before u off at k.layer k.is (sym same)))) (k.image.alone u (off_before u off));
   }
     where
+      open_as : (b : ℕ) (u : Id) (o : OpenVolume) → slice_get (path_in c) b ≡ Some u → slice_get (open_in next) b ≡ Some o → (b ≡ at) ⊎ (b ≢ at) → IsOpenAs (target_of c) u (r u) o × WasLong x u o
+      open_as b u o path is (inl same) =
+          let one : o ≡ Cow after = same_Some o (Cow after) (sym is ∙ ap (λ (i : ℕ). slice_get (open_in next) i) same ∙ at_here) in
+          subst (λ (z : OpenVolume). IsOpenAs (target_of c) u (r u) z × WasLong x u z) (sym one) (
+            same_target (target_of c) u (r u) k.layer after target (k.image.was.each at u (Cow k.layer) (ap (λ (i : ℕ). slice_get (path_in c) i) (sym same) ∙ path) k.is).0,
+            tt,
+          )
+      open_as b u o path is (inr other) = k.image.was.each b u o path (sym (set_other (open_in c) at b (Cow after) other) ∙ is)
+
+      off_before : (u : Id) → IsOffLayers next u → IsOffLayers c u
+      off_before u off b l is same = go (nat_cases b at)
+        where
+          go : (b ≡ at) ⊎ (b ≢ at) → ⊥
+          go (inl here) =
+              let one : l ≡ k.layer = let h : Some (Cow l) ≡ Some (Cow k.layer) = sym is ∙ ap (λ (i : ℕ). slice_get (open_in c) i) here ∙ k.is in cc in
+              off at after at_here (volume ∙ ap (λ (z : Layer). volume_kept z) (sym one) ∙ same)
+          go (inr other) = off b l (set_other (open_in c) at b (Cow after) other ∙ is) same
+
       cow : (b : ℕ) (l : Layer) → IsLayerAt next b l → (b ≡ at) ⊎ (b ≢ at) → IsCow l (r (volume_kept l))
       cow b l is (inl same) = cow_here l (one_layer l (subst (λ (i : ℕ). IsLayerAt next i l) same is))
       cow b l is (inr other) = k.image.cows b l (at_other b l other is)
 
   other_place : (b : ℕ) (l : Layer) → IsLayerAt c b l → b ≢ at → e.file (place_kept l) ≡ d.file (place_kept l)
   other_place b l is other = elsewhere (place_kept l) (λ same. other (k.apart b at l k.layer is k.is same))
+
+  pub kept_others : (q : Place) → IsOther c q → e.file q ≡ d.file q
+  kept_others q other = elsewhere q (other.layer at k.layer k.is)
+
+  pub each_step : (b : ℕ) (l : Layer) → IsLayerAt c b l → IsAlso (IsLayerStep l) (d.file (place_kept l)) (e.file (place_kept l))
+  each_step b l is = go (nat_cases b at)
+    where
+      own : IsAlso (IsLayerStep k.layer) (d.file (place_kept k.layer)) (e.file (place_kept k.layer))
+      own =
+          subst (λ (o : Option File). IsAlso (IsLayerStep k.layer) o (e.file (place_kept k.layer))) (sym k.there)
+          (subst (λ (o : Option File). IsAlso (IsLayerStep k.layer) (Some k.file) o) (sym here.1) (inr (here.2.size, backing_of h, here.2.comes)))
+
+      go : (b ≡ at) ⊎ (b ≢ at) → IsAlso (IsLayerStep l) (d.file (place_kept l)) (e.file (place_kept l))
+      go (inl same) =
+          let one : k.layer ≡ l = let w : Some (Cow k.layer) ≡ Some (Cow l) = sym k.is ∙ ap (λ (i : ℕ). slice_get (open_in c) i) (sym same) ∙ is in cc in
+          subst (λ (z : Layer). IsAlso (IsLayerStep z) (d.file (place_kept z)) (e.file (place_kept z))) one own
+      go (inr other) = no_step l (d.file (place_kept l)) (e.file (place_kept l)) (other_place b l is other)
 
   others : (b : ℕ) (l : Layer) → b ≢ at → IsLayerAt next b l → KnowsSettled next l host e
   others b l other is =
@@ -314,8 +373,11 @@ heading_settles c next at h host faults turn d e formed same rebases r x k = go 
         let target = target_after h k.layer is.0 (More more) is.2 in
         let found = here c at h is.0 host faults r x (More more) d e formed k target is.3 in
         record {
+          shows = tt;
           dirs = is.3.dirs;
           others = outside c at h is.0 host faults r x (More more) d e formed k target is.3;
+          kept = kept_others c at h is.0 host faults r x (More more) d e formed k target is.3;
+          layers = each_step c at h is.0 host faults r x (More more) d e formed k target is.3;
           alike = alike c at h is.0 host faults r x (More more) d e formed k target is.3;
           after = subst (λ (z : Chain). KnowsHeading z at more host r x e) (sym is.1) (goes_on c at h is.0 host faults r x (More more) d e formed k target is.3 more same is.2 found.2.next);
         }
@@ -323,8 +385,11 @@ heading_settles c next at h host faults turn d e formed same rebases r x k = go 
         let target = target_after h k.layer is.0 (Done u) is.2 in
         let found = here c at h is.0 host faults r x (Done u) d e formed k target is.3 in
         record {
+          shows = tt;
           dirs = is.3.dirs;
           others = outside c at h is.0 host faults r x (Done u) d e formed k target is.3;
+          kept = kept_others c at h is.0 host faults r x (Done u) d e formed k target is.3;
+          layers = each_step c at h is.0 host faults r x (Done u) d e formed k target is.3;
           alike = alike c at h is.0 host faults r x (Done u) d e formed k target is.3;
           after = subst (λ (z : Chain). KnowsHeaders z (at + 1) host r x e) (sym is.1) (ends c at h is.0 host faults r x (Done u) d e formed k target is.3 found.2.next.0 found.2.next.1 is.2.parent_is);
         }
@@ -332,8 +397,11 @@ heading_settles c next at h host faults turn d e formed same rebases r x k = go 
         let target = target_after h k.layer is.0 (Ended u refusal) is.2 in
         let found = here c at h is.0 host faults r x (Ended u refusal) d e formed k target is.3 in
         record {
+          shows = tt;
           dirs = is.3.dirs;
           others = outside c at h is.0 host faults r x (Ended u refusal) d e formed k target is.3;
+          kept = kept_others c at h is.0 host faults r x (Ended u refusal) d e formed k target is.3;
+          layers = each_step c at h is.0 host faults r x (Ended u refusal) d e formed k target is.3;
           alike = alike c at h is.0 host faults r x (Ended u refusal) d e formed k target is.3;
           after = found.2.next.0;
         }

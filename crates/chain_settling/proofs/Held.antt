@@ -6,7 +6,7 @@ use Rattle.std.proofs.lemmas.Grind.{same_number_lists}
 use Rattle.std.proofs.lemmas.Option.{none-some, same_Some}
 use Rattle.sd_names.specs.declared.fault.LayerFault.{LayerFault}
 use Rattle.sd_names.specs.declared.kinds.Format.{Format}
-use Rattle.sd_names.specs.declared.kinds.Format.TheVariants.{Raw, Cow}
+use Rattle.sd_names.specs.declared.kinds.Format.TheVariants.{Cow}
 use Rattle.shared_disk.specs.Content.{File, zero_sector}
 use Rattle.shared_disk.specs.WellFormed.{IsWellFormedFile}
 use Rattle.shared_disk.proofs.WellFormed.{zeros_are}

@@ -10,3 +10,6 @@ pub mod Fits
 pub mod Grows
 pub mod Heads
 pub mod Opened
+pub mod Known
+pub mod Survives
+pub mod Costs

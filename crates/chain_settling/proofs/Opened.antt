@@ -1,5 +1,5 @@
 -- An image that is open is known to its settling.
-use Rattle.std.proofs.Common.{◌≡◌, ◌≢◌, ◌⊎◌, ℕ, zero, suc, ◌+◌, ◌*◌, ◌^◌, ◌<◌, ◌≤◌, Bool, true, false, List, [], ◌∷◌, length, All, Option, Some, None, Result, Ok, Err, refl, sym, ap, ◌∙◌, subst, inl, inr, arith}
+use Rattle.std.proofs.Common.{◌≡◌, ℕ, zero, suc, ◌<◌, Bool, true, false, List, [], ◌∷◌, Option, Some, None, Result, Ok, Err, refl, sym, ap, ◌∙◌, subst, inl, arith}
 use Rattle.std.specs.Prelude.{slice_get, ◌==◌, if◌then◌else◌}
 use Rattle.std.specs.List.{Contains}
 use Rattle.std.proofs.lemmas.List.Elements.{All-nil, All-cons}
@@ -27,7 +27,7 @@ use Rattle.settling_steps.specs.Leftovers.{KnowsNames}
 use Rattle.settling_steps.specs.Leftovers as tidying
 use Rattle.settling_steps.specs.declared.leftovers.Tidying.{Tidying}
 use Rattle.chain_model.proofs.Chains.{no_ring}
-use Rattle.chain_model.specs.Chain.{IsBelow, counting, path_of}
+use Rattle.chain_model.specs.Chain.{IsBelow, counting}
 use Rattle.chain_model.specs.Own.{own_by}
 use Rattle.chain_model.specs.Records.{Image, Records, holds_in, is_passed, legal_in, record_in, records_of, stored_text}
 use Rattle.chain_gathering.specs.Knowing.{AreSettled, volumes_in}
@@ -42,9 +42,9 @@ use Rattle.volume_chain.specs.Knowing.{IsKnown}
 use Rattle.volume_chain.specs.Stages.{IsOpen}
 use Rattle.volume_chain.specs.declared.chain.Chain.{Chain}
 use Rattle.volume_chain.specs.declared.volumes.OpenVolume.{OpenVolume}
-use Rattle.volume_chain.specs.declared.volumes.OpenVolume.TheVariants.{Cow}
-use Rattle.chain_settling.specs.Alike.{HoldsAlike, IsCow, IsCowOf, IsOfImage, KnowsImage, ReadsAlike, file_in, folder_in, image_kept, text_in}
-use Rattle.chain_settling.specs.Fit.{AreValid}
+use Rattle.volume_chain.specs.declared.volumes.OpenVolume.TheVariants.{Cow, Raw}
+use Rattle.chain_settling.specs.Alike.{HoldsAlike, IsCow, IsCowOf, IsOfImage, KnowsImage, ReadsAlike}
+use Rattle.chain_settling.specs.Was.{IsLeftAlone, WasLong, file_in, folder_in, image_kept, text_in}
 use Rattle.chain_settling.specs.Knowing.{HaveRoom, KnowsSettled, KnowsTidying}
 use Rattle.chain_settling.specs.Work.{IsLayerAt}
 use Rattle.chain_settling.proofs.Alike.{says_by}
@@ -139,7 +139,7 @@ once r v (w ∷ ws) below (suc a) (suc b) u x y = go (is_passed r w) refl (λ m 
         let kept : (n : ℕ) → slice_get (counting r (w ∷ ws)) n ≡ Some u → slice_get (w ∷ counting r ws) n ≡ Some u = λ n e. ap (λ (us : List Id). slice_get us n) (sym (counting_kept r w ws t)) ∙ e in
         ap suc (more a b (kept a x) (kept b y))
 
-path_once : (r : Records) (path : List Id) → IsReadingPath r path → (a b : ℕ) (u : Id) → slice_get path a ≡ Some u → slice_get path b ≡ Some u → a ≡ b
+pub path_once : (r : Records) (path : List Id) → IsReadingPath r path → (a b : ℕ) (u : Id) → slice_get path a ≡ Some u → slice_get path b ≡ Some u → a ≡ b
 path_once r path is a b u x y =
     once r is.0 is.1 is.2.below a b u (ap (λ (us : List Id). slice_get us a) (sym is.3) ∙ x) (ap (λ (us : List Id). slice_get us b) (sym is.3) ∙ y)
 
@@ -169,7 +169,7 @@ legal_record : (o : Option VolumeRecord) → holds_in legal_in o ≡ true → (y
 legal_record None e = absurd (false≢true e)
 legal_record (Some y) e = (y, refl)
 
-module _ (c : Chain) (host : ℕ) (d : Content) (is_open : IsOpen c host d) (valid : AreValid c) (formed : IsWellFormed d) where
+module _ (c : Chain) (host : ℕ) (d : Content) (is_open : IsOpen c host d) (formed : IsWellFormed d) where
   abbrev dir : Dir
   dir = folder_in c
 
@@ -210,9 +210,39 @@ module _ (c : Chain) (host : ℕ) (d : Content) (is_open : IsOpen c host d) (val
     alike = itself (image_kept c) (folder_in c) d is_open.settled;
     partly = λ v. inl (sym (said v));
     kept = λ v y e. let text = from_text (image_kept c) (d.file (text_in (folder_in c) v)) y (said v ∙ e) in (text.0, text.1);
-    legible = λ v y e. of_image (image_kept c) (d.file (text_in (folder_in c) v)) y (valid v y e) (said v ∙ e);
+    legible = λ v y e. of_image (image_kept c) (d.file (text_in (folder_in c) v)) y (is_open.knows.shape.valid v y e) (said v ∙ e);
     cows = cow;
+    was = record {
+      first = records_kept c;
+      shown = is_open.knows.shown;
+      records = same;
+      ids = refl;
+      files = refl;
+      checked = is_open.knows.shape.checked;
+      reading = subst (λ (s : Records). IsReadingPath s (path_in c)) (sym same) is_open.knows.shape.reading;
+      all = is_open.knows.all;
+      each = open_as;
+    };
+    alone = λ v off. file v (d.file (file_in (folder_in c) v)) refl;
   }
+    where
+      long : (v : Id) (o : OpenVolume) → IsKnown (target_of c) host d v o → WasLong (volumes_in (folder_in c) d) v o
+      long v (Raw bytes) known = known
+      long v (Cow l) known = tt
+
+      open_as : (b : ℕ) (v : Id) (o : OpenVolume) → slice_get (path_in c) b ≡ Some v → slice_get (open_in c) b ≡ Some o → IsOpenAs (target_of c) v (r v) o × WasLong (volumes_in (folder_in c) d) v o
+      open_as b v o at is =
+          let a = on_path (λ u z. IsOpenAs (target_of c) u (records_in (records_kept c) u) z) (path_in c) (open_in c) b o is_open.knows.shape.each is in
+          let k = on_path (IsKnown (target_of c) host d) (path_in c) (open_in c) b o is_open.knows.known is in
+          let as_said : IsOpenAs (target_of c) v (records_in (records_kept c) v) o =
+          subst (λ (u : Id). IsOpenAs (target_of c) u (records_in (records_kept c) u) o) (same_Some a.0 v (sym a.1 ∙ at)) a.2 in (
+            subst (λ (s : Records). IsOpenAs (target_of c) v (s v) o) (sym same) as_said,
+            long v o (subst (λ (u : Id). IsKnown (target_of c) host d u o) (same_Some k.0 v (sym k.1 ∙ at)) k.2),
+          )
+
+      file : (v : Id) (o : Option File) → d.file (file_in (folder_in c) v) ≡ o → IsAlso IsLeftAlone o o
+      file v None e = tt
+      file v (Some f) e = record { settled = is_open.settled (Data v) f e; longer = record { size = omega arith; sectors = λ k. refl } }
 
   settled : (b : ℕ) (l : Layer) → IsLayerAt c b l → KnowsSettled c l host d
   settled b l is =

@@ -1,5 +1,5 @@
 -- An image that reads alike does so on each outcome.
-use Rattle.std.proofs.Common.{◌≡◌, ◌⊎◌, ℕ, List, Option, Some, None, refl, sym, ap, ◌∙◌, subst}
+use Rattle.std.proofs.Common.{◌≡◌, ◌⊎◌, ℕ, List, Option, Some, None, refl, sym, ◌∙◌, subst}
 use Rattle.sd_names.specs.declared.id.Id.{Id}
 use Rattle.sd_names.specs.declared.place.Dir.{Dir}
 use Rattle.shared_disk.specs.Content.{Content, File}
@@ -16,7 +16,8 @@ use Rattle.chain_model.proofs.Flats.{flat_alike}
 use Rattle.chain_records.specs.Paths.{HasChain}
 use Rattle.chain_records.specs.Settling.{ArePartlyRewritten, IsRewritten}
 use Rattle.chain_records.proofs.Partly.{flats_alike, reading_alike}
-use Rattle.chain_settling.specs.Alike.{HoldsAlike, ReadsAlike, file_in, text_in}
+use Rattle.chain_settling.specs.Alike.{HoldsAlike, ReadsAlike}
+use Rattle.chain_settling.specs.Was.{file_in, text_in}
 use Rattle.chain_settling.proofs.Alike.{said_same}
 
 text_on : (i : Image) (dir : Dir) (r : Records) (x : Volumes) (d o : Content) → ReadsAlike i dir r x d → IsOutcome d o → (v : Id) → o.file (text_in dir v) ≡ d.file (text_in dir v)

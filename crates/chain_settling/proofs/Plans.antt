@@ -1,10 +1,8 @@
 -- What is known of the texts as settling goes from volume to volume.
-use Rattle.std.proofs.Common.{◌≡◌, ◌≢◌, ◌⊎◌, ℕ, ◌+◌, ◌<◌, ◌≤◌, Bool, true, false, List, length, Option, Some, None, unwrap_or, refl, sym, ap, ◌∙◌, subst, inl, inr, arith}
+use Rattle.std.proofs.Common.{◌≡◌, ◌≢◌, ◌⊎◌, ℕ, ◌<◌, Bool, true, false, List, length, Option, Some, None, unwrap_or, refl, sym, ap, ◌∙◌, subst, inl, inr}
 use Rattle.std.specs.Prelude.{if◌then◌else◌, option_and_then, slice_get}
-use Rattle.std.specs.List.{Contains}
 use Rattle.std.specs.Option.{option_map}
-use Rattle.std.proofs.lemmas.Bool.{cases_lt, false≢true}
-use Rattle.std.proofs.lemmas.Option.{none-some, same_Some, slice_get-get_or}
+use Rattle.std.proofs.lemmas.Option.{same_Some, slice_get-get_or}
 use Rattle.sd_names.specs.Id.{zero_id}
 use Rattle.sd_names.specs.declared.id.Id.{Id}
 use Rattle.sd_names.specs.declared.kinds.VolType.{VolType}
@@ -12,20 +10,20 @@ use Rattle.shared_disk.specs.Places.{id_is}
 use Rattle.shared_disk.proofs.Places.{id_is-itself, id_is-same}
 use Rattle.volume_meta.specs.declared.record.VolumeRecord.{VolumeRecord}
 use Rattle.chain_model.proofs.Chains.{one_below, same_id}
-use Rattle.chain_model.specs.Chain.{IsBelow, path_of}
-use Rattle.chain_model.specs.Records.{Records, is_legal, is_passed, parent, parent_in}
+use Rattle.chain_model.specs.Chain.{IsBelow}
+use Rattle.chain_model.specs.Records.{Records, is_passed, parent, parent_in}
 use Rattle.chain_model.specs.Up.{up_of}
 use Rattle.chain_records.specs.Paths.{HasChain}
 use Rattle.chain_records.specs.Records.{ids_of, records_in}
 use Rattle.chain_records.specs.Rewriting.{changed, naming, typed}
-use Rattle.chain_records.specs.Settling.{ArePartlyRewritten, AreRewritten, HasPassedParent, IsNamed, IsOver, IsRewritten}
+use Rattle.chain_records.specs.Settling.{ArePartlyRewritten, AreRewritten, IsNamed, IsOver, IsRewritten}
 use Rattle.chain_records.specs.declared.volume.Volume.{Volume}
 use Rattle.chain_records.proofs.Lists.{length_ids, record_among}
 use Rattle.chain_records.proofs.Partly.{legal_alike, passed_alike, path_alike, still_chain}
 use Rattle.chain_records.proofs.Settled.{up_reached}
-use Rattle.chain_records.proofs.Stepwise.{named, parent_step, parents_done, type_step}
+use Rattle.chain_records.proofs.Stepwise.{named}
 use Rattle.chain_settling.specs.Knowing.{IsDone, IsTyped}
-use Rattle.chain_settling.specs.Work.{IsParentChange, IsRightType, IsTypeChange}
+use Rattle.chain_settling.specs.Work.{IsParentChange, IsRightType}
 use Rattle.chain_settling.proofs.Alike.{same_or_not}
 
 -- ---- the parent that counts, by the records as they are rewritten

@@ -1,5 +1,5 @@
 -- The rewriting of a text, as it begins: what it is made of fits.
-use Rattle.std.proofs.Common.{◌≡◌, ◌<◌, ◌^◌, ℕ, List, length, Option, Some, None, refl, sym, ap, ◌∙◌, subst}
+use Rattle.std.proofs.Common.{◌≡◌, ◌<◌, ◌^◌, ℕ, List, length, Option, Some, None, sym, ap, ◌∙◌, subst}
 use Rattle.std.specs.Prelude.{slice_get}
 use Rattle.std.specs.Option.{option_map}
 use Rattle.std.proofs.lemmas.Option.{none-some}
@@ -11,16 +11,14 @@ use Rattle.volume_texts.specs.declared.write.TextWrite.{TextWrite}
 use Rattle.whole_file.specs.declared.replace.Stage.TheVariants.{Begun}
 use Rattle.chain_records.specs.Records.{files_of, ids_of, records_in}
 use Rattle.chain_records.specs.Rewriting.{changed}
-use Rattle.chain_records.specs.declared.volume.Volume.{Volume}
 use Rattle.volume_chain.specs.Chain.{dir_in, open_in, path_in, records_kept, target_of}
 use Rattle.volume_chain.specs.Parts.{version_of, with_records}
 use Rattle.volume_chain.specs.declared.chain.Chain.{Chain}
-use Rattle.chain_settling.specs.Alike.{folder_in}
+use Rattle.chain_settling.specs.Was.{folder_in}
 use Rattle.chain_settling.specs.Begun.{IsBegunText}
 use Rattle.chain_settling.specs.Fit.{AreValid, IsFit, IsSameChain}
-use Rattle.chain_settling.specs.Work.{IsIdAt, changed_to, record_at}
+use Rattle.chain_settling.specs.Work.{IsIdAt, changed_to}
 use Rattle.chain_settling.specs.declared.stages.Part.{Part}
-use Rattle.chain_settling.specs.declared.stages.Stage.{Stage}
 use Rattle.chain_settling.specs.declared.stages.Stage.TheVariants.{Texts, Writing}
 use Rattle.chain_settling.specs.declared.texts.Change.{Change}
 use Rattle.chain_settling.proofs.Begins.{id_at, record_of}

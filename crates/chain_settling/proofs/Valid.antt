@@ -1,12 +1,11 @@
 -- Records of a chain stay valid, and can be written.
-use Rattle.std.proofs.Common.{◌≡◌, ◌≢◌, ◌⊎◌, ℕ, List, length, Option, Some, None, sym, ap, ◌∙◌, subst, inl, inr}
+use Rattle.std.proofs.Common.{◌≡◌, ◌⊎◌, ℕ, List, length, Option, Some, None, sym, ap, ◌∙◌, subst, inl, inr}
 use Rattle.std.specs.Prelude.{slice_get}
 use Rattle.sd_names.specs.Id.{IsIdBytes}
 use Rattle.sd_names.specs.declared.id.Id.{Id}
 use Rattle.volume_meta.specs.Text.{HasShortTexts}
 use Rattle.volume_meta.specs.Valid.{IsValid}
 use Rattle.volume_meta.specs.declared.record.VolumeRecord.{VolumeRecord}
-use Rattle.chain_model.specs.Records.{Records}
 use Rattle.chain_records.specs.Records.{ids_of, records_in}
 use Rattle.chain_records.specs.Rewriting.{changed}
 use Rattle.chain_records.specs.declared.volume.Volume.{Volume}

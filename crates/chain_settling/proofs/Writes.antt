@@ -1,5 +1,5 @@
 -- What a step of the rewriting of a text leaves.
-use Rattle.std.proofs.Common.{◌≡◌, ◌≢◌, ◌⊎◌, ℕ, ◌+◌, ◌<◌, ◌≤◌, List, length, Option, Some, None, refl, sym, ap, ◌∙◌, subst, inl, inr, arith}
+use Rattle.std.proofs.Common.{◌≡◌, ◌≢◌, ◌⊎◌, ℕ, ◌+◌, Option, Some, None, refl, sym, ap, ◌∙◌, subst, inl, inr}
 use Rattle.std.specs.Prelude.{slice_get}
 use Rattle.std.specs.Option.{option_map}
 use Rattle.std.proofs.lemmas.Option.{none-some, same_Some, slice_get-map}
@@ -11,7 +11,8 @@ use Rattle.sd_names.specs.declared.place.Name.TheVariants as name
 use Rattle.sd_names.specs.declared.place.Place.{Place}
 use Rattle.sd_names.specs.declared.turn.Turn.{Turn}
 use Rattle.sd_names.specs.declared.turn.Turn.TheVariants.{More, Done, Ended}
-use Rattle.shared_disk.specs.Content.{Content, File}
+use Rattle.shared_disk.specs.Content.{Content}
+use Rattle.shared_disk.specs.Crash.{IsAlso}
 use Rattle.shared_disk.specs.NameCalls.{place_in}
 use Rattle.qcow_layer.specs.Opening.{place_kept, volume_kept}
 use Rattle.qcow_layer.specs.declared.layer.Layer.{Layer}
@@ -30,21 +31,20 @@ use Rattle.chain_records.specs.Records.{ids_of, records_in}
 use Rattle.chain_records.specs.Settling.{IsRewritten}
 use Rattle.chain_records.specs.declared.volume.Volume.{Volume}
 use Rattle.volume_chain.specs.Chain.{records_kept}
-use Rattle.volume_chain.specs.Parts.{version_of}
 use Rattle.volume_chain.specs.declared.chain.Chain.{Chain}
-use Rattle.chain_settling.specs.Alike.{AreSaidBut, IsSaid, KnowsImage, ReadsAlike, file_in, folder_in, image_kept, text_in}
+use Rattle.chain_settling.specs.Alike.{AreSaidBut, IsSaid, KnowsImage, ReadsAlike}
+use Rattle.chain_settling.specs.Was.{file_in, folder_in, image_kept, text_in}
 use Rattle.chain_settling.specs.Fit.{StageTurn}
 use Rattle.chain_settling.specs.Knowing.{KnowsRest, KnowsSettled, KnowsTexts, KnowsWriting}
-use Rattle.chain_settling.specs.Steps.{KnowsStage, Settles}
-use Rattle.chain_settling.specs.Work.{record_at}
+use Rattle.chain_settling.specs.Steps.{IsLayerStep, IsOther, KnowsStage, Settles}
+use Rattle.chain_settling.specs.Work.{IsLayerAt, record_at}
 use Rattle.chain_settling.specs.declared.stages.Part.{Part}
-use Rattle.chain_settling.specs.declared.stages.Stage.{Stage}
 use Rattle.chain_settling.specs.declared.stages.Stage.TheVariants.{Texts, Writing}
-use Rattle.chain_settling.proofs.Alike.{AreKept, IsWritten, alike_kept, alike_written, said_record, said_same, same_or_not}
+use Rattle.chain_settling.proofs.Alike.{IsWritten, alike_kept, alike_written, alone_kept, no_step, said_record, said_same, same_or_not}
 
 -- ---- what is known of layers stays where their files do
 
-rest_kept : (c : Chain) (host : ℕ) (d e : Content) → ((v : Id) → e.file (file_in (folder_in c) v) ≡ d.file (file_in (folder_in c) v)) → KnowsRest c host d → KnowsRest c host e
+pub rest_kept : (c : Chain) (host : ℕ) (d e : Content) → ((v : Id) → e.file (file_in (folder_in c) v) ≡ d.file (file_in (folder_in c) v)) → KnowsRest c host d → KnowsRest c host e
 rest_kept c host d e same k = record {
   layers = record { each = λ at l is. layer at l (k.layers.each at l is); apart = k.layers.apart };
   whole = λ b l is. whole b l (k.layers.each b l is) (k.whole b l is);
@@ -116,6 +116,14 @@ module _ (c : Chain) (p : Part) (i : ℕ) (w : TextWrite) (host faults : ℕ) (r
   pub outside : (q : Place) → q.dir ≢ dir → e.file q ≡ d.file q
   outside q other = elsewhere q (λ same. other (ap (λ (z : Place). z.dir) same)) (λ same. other (ap (λ (z : Place). z.dir) same))
 
+  pub kept_others : (q : Place) → IsOther c q → e.file q ≡ d.file q
+  kept_others q other = elsewhere q (other.text k.volume) (other.temporary (New k.volume))
+
+  pub each_step : (b : ℕ) (l : Layer) → IsLayerAt c b l → IsAlso (IsLayerStep l) (d.file (place_kept l)) (e.file (place_kept l))
+  each_step b l is =
+      no_step l (d.file (place_kept l)) (e.file (place_kept l))
+      (subst (λ (q : Place). e.file q ≡ d.file q) (sym (k.rest.layers.each b l is).place) (files_same (volume_kept l)))
+
   has_here : HasRecord (write_version w) (file_of w) k.says e → HasRecord (image_kept c).version (text_in dir k.volume) k.says e
   has_here has =
       subst (λ (n : ℕ). HasRecord n (text_in dir k.volume) k.says e) k.version (subst (λ (q : Place). HasRecord (write_version w) q k.says e) k.file has)
@@ -148,6 +156,8 @@ module _ (c : Chain) (p : Part) (i : ℕ) (w : TextWrite) (host faults : ℕ) (r
     kept = k.image.kept;
     legible = k.image.legible;
     cows = k.image.cows;
+    was = k.image.was;
+    alone = alone_kept c x d e (λ v off. files_same v) k.image.alone;
   }
 
   said_but : AreSaidBut c k.volume e
@@ -210,20 +220,29 @@ writing_settles c p i w host faults turn d e same writes r x k = go turn same (w
   where
     go : (turn : TextTurn) → IsSameIn w turn → WriteSteps w host faults k.says turn d e → Settles (Writing c p i w) host faults r x (written_turn c p i turn) d e
     go (More next) same steps = record {
+      shows = tt;
       dirs = steps.apart.dirs;
       others = outside c p i w host faults r x (More next) d e k steps;
+      kept = kept_others c p i w host faults r x (More next) d e k steps;
+      layers = each_step c p i w host faults r x (More next) d e k steps;
       alike = alike c p i w host faults r x (More next) d e k steps;
       after = goes_on c p i w host faults r x (More next) d e k steps next same steps.after;
     }
     go (Done u) same steps = record {
+      shows = tt;
       dirs = steps.apart.dirs;
       others = outside c p i w host faults r x (Done u) d e k steps;
+      kept = kept_others c p i w host faults r x (Done u) d e k steps;
+      layers = each_step c p i w host faults r x (Done u) d e k steps;
       alike = alike c p i w host faults r x (Done u) d e k steps;
       after = ends c p i w host faults r x (Done u) d e k steps (steps.after.0 (k.image.legible k.volume k.says k.is).legible) steps.after.1;
     }
     go (Ended u refusal) same steps = record {
+      shows = tt;
       dirs = steps.apart.dirs;
       others = outside c p i w host faults r x (Ended u refusal) d e k steps;
+      kept = kept_others c p i w host faults r x (Ended u refusal) d e k steps;
+      layers = each_step c p i w host faults r x (Ended u refusal) d e k steps;
       alike = alike c p i w host faults r x (Ended u refusal) d e k steps;
       after = steps.after.0;
     }

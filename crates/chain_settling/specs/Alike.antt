@@ -2,12 +2,9 @@
 use Rattle.std.specs.Prelude.{◌≡◌, ◌≢◌, ℕ, true, Option, Some, None}
 use Rattle.sd_names.specs.declared.id.Id.{Id}
 use Rattle.sd_names.specs.declared.place.Dir.{Dir}
-use Rattle.sd_names.specs.declared.place.Name.TheVariants as name
-use Rattle.sd_names.specs.declared.place.Place.{Place}
 use Rattle.sd_names.specs.declared.kinds.Format.TheVariants.{Cow}
 use Rattle.shared_disk.specs.Content.{Content, File}
 use Rattle.shared_disk.specs.Crash.{IsAlso, IsSettled, OnEach}
-use Rattle.shared_disk.specs.NameCalls.{place_in}
 use Rattle.qcow_layer.specs.Opening.{target_kept, volume_kept}
 use Rattle.qcow_layer.specs.declared.layer.Layer.{Layer}
 use Rattle.qcow_layer.specs.declared.stages.Target.{Target}
@@ -20,22 +17,10 @@ use Rattle.chain_gathering.specs.Knowing.{volumes_in}
 use Rattle.chain_records.specs.Paths.{HasChain}
 use Rattle.chain_records.specs.Records.{records_in}
 use Rattle.chain_records.specs.Settling.{ArePartlyRewritten}
-use Rattle.volume_chain.specs.Chain.{dir_in, image_in, records_kept, target_of}
+use Rattle.volume_chain.specs.Chain.{records_kept}
 use Rattle.volume_chain.specs.declared.chain.Chain.{Chain}
+use Rattle.chain_settling.specs.Was.{AreLeftAlone, WasOpen, file_in, folder_in, image_kept, text_in}
 use Rattle.chain_settling.specs.Work.{IsLayerAt}
-
--- the file of a volume, and that of its text
-abbrev pub file_in : Dir → Id → Place
-file_in dir v = place_in dir (name.Volume v)
-
-abbrev pub text_in : Dir → Id → Place
-text_in dir v = place_in dir (name.Meta v)
-
-abbrev pub folder_in : Chain → Dir
-folder_in c = dir_in (target_of c)
-
-abbrev pub image_kept : Chain → Image
-image_kept c = image_in (target_of c)
 
 -- a second file of a volume holds what the first one holds
 abbrev pub HoldsAlike : Option VolumeRecord → File → File → Type 0
@@ -63,7 +48,8 @@ pub record IsOfImage (i : Image) (y : VolumeRecord) : Type 0 where
   pub legible : IsLegible y
 
 -- What is known of an image in each stage: it reads alike, and the records that are kept are its old ones, partly rewritten,
--- each of which had its text. The layers of the path are those of records of their capacities.
+-- each of which had its text. The layers of the path are those of records of their capacities, and the files of other volumes
+-- are left alone.
 pub record KnowsImage (c : Chain) (r : Records) (x : Volumes) (d : Content) : Type 0 where
   pub folder : d.dir (folder_in c) ≡ true
   pub chains : (v : Id) → HasChain r v
@@ -72,6 +58,8 @@ pub record KnowsImage (c : Chain) (r : Records) (x : Volumes) (d : Content) : Ty
   pub kept : (v : Id) (y : VolumeRecord) → records_in (records_kept c) v ≡ Some y → (f : File) × (x.text v ≡ Some f)
   pub legible : (v : Id) (y : VolumeRecord) → records_in (records_kept c) v ≡ Some y → IsOfImage (image_kept c) y
   pub cows : (b : ℕ) (l : Layer) → IsLayerAt c b l → IsCow l (r (volume_kept l))
+  pub was : WasOpen c r x
+  pub alone : AreLeftAlone c x d
 
 -- each text says what is kept of it: those of all volumes, or of all but one
 abbrev pub IsSaid : Chain → Content → Id → Type 0

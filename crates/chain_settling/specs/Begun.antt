@@ -14,7 +14,7 @@ use Rattle.chain_records.specs.declared.volume.Volume.{Volume}
 use Rattle.volume_chain.specs.Chain.{records_kept}
 use Rattle.volume_chain.specs.Parts.{version_of, with_records}
 use Rattle.volume_chain.specs.declared.chain.Chain.{Chain}
-use Rattle.chain_settling.specs.Alike.{folder_in}
+use Rattle.chain_settling.specs.Was.{folder_in}
 use Rattle.chain_settling.specs.Work.{changed_to, record_at}
 use Rattle.chain_settling.specs.Fit.{StageTurn}
 use Rattle.chain_settling.specs.declared.stages.Part.{Part}

@@ -1,13 +1,12 @@
 -- What a settling is made of fits, whatever the disk tells.
-use Rattle.std.specs.Prelude.{◌≡◌, ℕ, ◌<◌, ◌^◌, List, length, map, Option, Some}
+use Rattle.std.specs.Prelude.{◌≡◌, ℕ, ◌<◌, ◌^◌, length, Some}
 use Rattle.sd_names.specs.Turn.{MatchTurn}
-use Rattle.sd_names.specs.declared.id.Id.{Id}
 use Rattle.sd_names.specs.declared.turn.Turn.{Turn}
-use Rattle.volume_meta.specs.Valid.{IsValid}
 use Rattle.volume_meta.specs.declared.record.VolumeRecord.{VolumeRecord}
 use Rattle.volume_texts.specs.Write.{IsFor}
 use Rattle.volume_texts.specs.declared.write.TextWrite.{TextWrite}
-use Rattle.chain_records.specs.Records.{files_of, ids_of, records_in}
+use Rattle.chain_gathering.specs.Kept as kept
+use Rattle.chain_records.specs.Records.{files_of, ids_of}
 use Rattle.volume_chain.specs.Chain.{open_in, path_in, records_kept, target_of}
 use Rattle.volume_chain.specs.declared.chain.Chain.{Chain}
 use Rattle.chain_settling.specs.Work.{record_at}
@@ -27,9 +26,9 @@ chain_in (Heading c at r) = c
 chain_in (Texts c part i) = c
 chain_in (Writing c part i w) = c
 
--- each record of a chain is valid, as all are that were read
+-- each record of a chain is valid, as all are of a chain that was opened
 abbrev pub AreValid : Chain → Type 0
-AreValid c = (v : Id) (x : VolumeRecord) → records_in (records_kept c) v ≡ Some x → IsValid x
+AreValid c = kept.AreValid (records_kept c)
 
 -- the text that is written is that of the record at this place of the list
 pub record IsOfRecord (c : Chain) (i : ℕ) (w : TextWrite) : Type 0 where

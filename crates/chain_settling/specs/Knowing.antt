@@ -1,5 +1,5 @@
 -- What is known in each stage of a settling.
-use Rattle.std.specs.Prelude.{◌≡◌, ◌≢◌, ◌⊎◌, ℕ, ◌+◌, ◌*◌, ◌^◌, ◌<◌, ◌≤◌, length, slice_get, Some, None, Ok}
+use Rattle.std.specs.Prelude.{◌≡◌, ◌≢◌, ◌⊎◌, ℕ, ◌+◌, ◌*◌, ◌^◌, ◌<◌, ◌≤◌, slice_get, Some, None, Ok}
 use Rattle.sd_names.specs.declared.id.Id.{Id}
 use Rattle.sd_names.specs.declared.place.Name.TheVariants as name
 use Rattle.shared_disk.specs.Content.{Content, File}
@@ -29,10 +29,11 @@ use Rattle.chain_model.specs.Folder.{Volumes}
 use Rattle.chain_model.specs.Records.{Records}
 use Rattle.chain_records.specs.Records.{ids_of, records_in}
 use Rattle.chain_records.specs.Settling.{AreRewritten, HasPassedParent, IsOver, IsRewritten}
-use Rattle.volume_chain.specs.Chain.{open_in, records_kept}
+use Rattle.volume_chain.specs.Chain.{records_kept}
 use Rattle.volume_chain.specs.Parts.{version_of}
 use Rattle.volume_chain.specs.declared.chain.Chain.{Chain}
-use Rattle.chain_settling.specs.Alike.{AreSaid, AreSaidBut, IsCow, KnowsImage, file_in, folder_in}
+use Rattle.chain_settling.specs.Alike.{AreSaid, AreSaidBut, IsCow, KnowsImage}
+use Rattle.chain_settling.specs.Was.{file_in, folder_in}
 use Rattle.chain_settling.specs.Work.{IsLayerAt, IsRightType}
 use Rattle.chain_settling.specs.declared.stages.Part.{Part}
 use Rattle.chain_settling.specs.declared.stages.Part.TheVariants.{Parents, Types}

@@ -1,11 +1,15 @@
 -- How many steps a settling takes at the most.
-use Rattle.std.specs.Prelude.{ℕ, ◌+◌, ◌-◌, ◌*◌, ◌<◌, length, Option}
+use Rattle.std.specs.Prelude.{ℕ, ◌+◌, ◌-◌, ◌*◌, ◌<◌, ◌≤◌, length, Option, Some}
 use Rattle.sd_names.specs.Turn.{MatchTurn}
+use Rattle.sd_names.specs.declared.place.Dir.{Dir}
 use Rattle.sd_names.specs.declared.place.Name.{Name}
 use Rattle.sd_names.specs.declared.turn.Turn.TheVariants.{More}
+use Rattle.shared_disk.specs.Content.{Content}
+use Rattle.shared_disk.specs.NameCalls.{IsNameAbove, ShowsName}
 use Rattle.layer_heading.specs.Rebasing.{rebasing_left}
 use Rattle.settling_steps.specs.Leftovers as tidy
 use Rattle.settling_steps.specs.Lengthening as long
+use Rattle.settling_steps.specs.Names.{price}
 use Rattle.volume_texts.specs.Write.{write_left}
 use Rattle.volume_chain.specs.Chain.{open_in, records_kept}
 use Rattle.volume_chain.specs.declared.chain.Chain.{Chain}
@@ -45,6 +49,11 @@ left_of cost (Headers c at) = headers_left c at + after_headers c
 left_of cost (Heading c at r) = rebasing_left r + headers_left c (at + 1) + after_headers c
 left_of cost (Texts c part i) = texts_left c i + then_types c part
 left_of cost (Writing c part i w) = write_left w + texts_left c (i + 1) + then_types c part
+
+-- what the names above each cost, where the folder shows these: a name and those above it cost no more than those above what it
+-- is above
+abbrev pub IsCost : Dir → Content → (Option Name → ℕ) → Type 0
+IsCost dir d cost = (before : Option Name) (n : Name) → ShowsName d dir n → IsNameAbove before n → cost (Some n) + price n ≤ cost before
 
 -- where a step lists a name, this holds of the name before it and of that one
 abbrev pub MeetsAt : (Option Name → Option Name → Type 0) → Stage → StageTurn → Type 0

@@ -2,6 +2,7 @@ pub mod Work
 pub mod Fit
 pub mod Left
 pub mod Settling
+pub mod Was
 pub mod Alike
 pub mod Knowing
 pub mod Steps

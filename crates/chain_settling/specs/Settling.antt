@@ -1,5 +1,6 @@
 -- A settling between its steps, in public words.
 use Rattle.std.specs.Prelude.{◌≡◌, ℕ, Option}
+use Rattle.sd_names.specs.declared.place.Dir.{Dir}
 use Rattle.sd_names.specs.declared.place.Name.{Name}
 use Rattle.sd_names.specs.declared.turn.Turn.{Turn}
 use Rattle.sd_names.specs.declared.turn.Turn.TheVariants.{More, Done, Ended}
@@ -7,11 +8,15 @@ use Rattle.shared_disk.specs.Content.{Content}
 use Rattle.chain_model.specs.Folder.{Volumes}
 use Rattle.chain_model.specs.Records.{Records}
 use Rattle.volume_chain.specs.declared.chain.Chain.{Chain}
+use Rattle.settling_steps.specs.Leftovers as tidy
+use Rattle.settling_steps.specs.declared.leftovers.Tidying.{Tidying}
 use Rattle.chain_settling.specs.Fit.{IsFit, KeepsFit, StageTurn, chain_in}
-use Rattle.chain_settling.specs.Left.{FallsIn, MeetsAt, after_lengths, left_of, lengths_left}
+use Rattle.chain_settling.specs.Left.{FallsIn, MeetsAt, left_of}
 use Rattle.chain_settling.specs.Steps.{KnowsStage, SettlesIn}
+use Rattle.chain_settling.specs.Was.{folder_in}
 use Rattle.chain_settling.specs.declared.settling.Settling.{Settling}
 use Rattle.chain_settling.specs.declared.stages.Stage.{Stage}
+use Rattle.chain_settling.specs.declared.stages.Stage.TheVariants as stages
 
 abbrev pub SettlingTurn : Type 0
 SettlingTurn = Turn Settling Chain (Unit {0})
@@ -28,6 +33,10 @@ stage_turn (Ended b refusal) = Ended b refusal
 -- the chain that is settled, as it is kept
 abbrev pub chain_of : Settling → Chain
 chain_of s = chain_in s.stage
+
+-- the image's folder
+abbrev pub folder_of : Settling → Dir
+folder_of s = folder_in (chain_of s)
 
 -- how many more steps it takes at the most, `cost after` being what the names above `after` cost
 abbrev pub steps_left : (Option Name → ℕ) → Settling → ℕ
@@ -47,6 +56,12 @@ Meets R s turn = MeetsAt R s.stage (stage_turn turn)
 pub record IsBegun (c : Chain) (s : Settling) : Type 0 where
   pub chain : chain_of s ≡ c
   pub fit : IsFit s.stage
+
+-- it begins with the removal of temporary names
+pub record BeginsTidying (c : Chain) (s : Settling) : Type 0 where
+  pub tidying : Tidying
+  pub stage : stage_of s ≡ stages.Tidying c tidying
+  pub begun : tidy.IsBegun (folder_in c) tidying
 
 -- what is known in its stage, and what a step leaves of an image that is known
 abbrev pub Knows : Settling → ℕ → Records → Volumes → Content → Type 0

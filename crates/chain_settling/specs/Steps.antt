@@ -1,24 +1,35 @@
 -- What a step of a settling leaves of an image that is known.
-use Rattle.std.specs.Prelude.{◌≡◌, ◌≢◌, ℕ}
+use Rattle.std.specs.Prelude.{◌≡◌, ◌≢◌, ◌⊎◌, ℕ}
 use Rattle.sd_names.specs.Turn.{MatchTurn}
+use Rattle.sd_names.specs.declared.id.Id.{Id}
 use Rattle.sd_names.specs.declared.place.Dir.{Dir}
 use Rattle.sd_names.specs.declared.place.Place.{Place}
 use Rattle.sd_names.specs.declared.refusal.Refusal.TheVariants.{DiskFault}
-use Rattle.shared_disk.specs.Content.{Content}
+use Rattle.shared_disk.specs.Content.{Content, File}
+use Rattle.shared_disk.specs.Crash.{IsAlso}
+use Rattle.layer_creating.specs.declared.backing.Backing.{Backing}
+use Rattle.layer_heading.specs.Rebased.{IsOldOrOver}
 use Rattle.layer_heading.specs.Rebasing as heading
 use Rattle.layer_heading.specs.Rebasing.{KeepsLayer}
 use Rattle.layer_heading.specs.Writing.{Turned}
 use Rattle.layer_heading.specs.declared.rebasing.Rebasing.{Rebasing}
+use Rattle.layer_writing.specs.Holding.{ComesBy}
+use Rattle.qcow_layer.specs.Opening.{capacity_kept, header_kept, place_kept}
 use Rattle.qcow_layer.specs.declared.layer.Layer.{Layer}
-use Rattle.settling_steps.specs.Lengthening.{LengthTurn, Lengthens}
+use Rattle.settling_steps.specs.Leftovers.{temporary_in}
+use Rattle.settling_steps.specs.Lengthening.{IsGrownFile, LengthTurn, Lengthens}
 use Rattle.settling_steps.specs.declared.lengthening.Lengthening.{Lengthening}
+use Rattle.settling_steps.specs.declared.names.Temporary.{Temporary}
 use Rattle.chain_model.specs.Folder.{Volumes}
 use Rattle.chain_model.specs.Records.{Records}
+use Rattle.chain_gathering.specs.Steps.{IsShown}
 use Rattle.volume_chain.specs.Parts.{with_open}
 use Rattle.volume_chain.specs.declared.chain.Chain.{Chain}
 use Rattle.volume_chain.specs.declared.volumes.OpenVolume.TheVariants.{Cow}
-use Rattle.chain_settling.specs.Alike.{ReadsAlike, folder_in, image_kept}
+use Rattle.chain_settling.specs.Alike.{ReadsAlike}
+use Rattle.chain_settling.specs.Was.{folder_in, image_kept, text_in}
 use Rattle.chain_settling.specs.Fit.{StageTurn, chain_in}
+use Rattle.chain_settling.specs.Left.{MeetsAt}
 use Rattle.chain_settling.specs.Knowing.{IsSettledImage, KnowsHeaders, KnowsHeading, KnowsLengthening, KnowsLengths, KnowsTexts, KnowsTidying, KnowsWriting}
 use Rattle.chain_settling.specs.Work.{IsLayerAt}
 use Rattle.chain_settling.specs.declared.stages.Stage.{Stage}
@@ -35,11 +46,25 @@ KnowsStage (stages.Lengthening c at l) host r x d = KnowsLengthening c at l host
 KnowsStage (Headers c at) host r x d = KnowsHeaders c at host r x d
 KnowsStage (Heading c at h) host r x d = KnowsHeading c at h host r x d
 
--- No folder and no file outside the image's folder is changed, and the image reads alike on each outcome. A refusal is the
--- disk's fault.
+-- a place that is neither that of a text or a temporary text of the image, nor that of the file of a layer of the path
+pub record IsOther (c : Chain) (q : Place) : Type 0 where
+  pub text : (v : Id) → q ≢ text_in (folder_in c) v
+  pub temporary : (o : Temporary) → q ≢ temporary_in (folder_in c) o
+  pub layer : (b : ℕ) (l : Layer) → IsLayerAt c b l → q ≢ place_kept l
+
+-- What a step makes of the file of a layer of the path: nothing, or zeros behind its end; or, in a file that stays as long, each
+-- outcome is one from before, or one from before in which the layer lies over another backing file.
+abbrev pub IsLayerStep : Layer → File → File → Type 0
+IsLayerStep l f g = IsGrownFile f g ⊎ ((g.size ≡ f.size) × (b : Backing) × ComesBy (IsOldOrOver (header_kept l) b (capacity_kept l)) f g)
+
+-- The name that a step lists is in the folder. No folder is changed, and no file but texts, temporary texts and the files of the path's layers, all in the image's folder;
+-- and the image reads alike on each outcome. A refusal is the disk's fault.
 pub record Settles (s : Stage) (host faults : ℕ) (r : Records) (x : Volumes) (turn : StageTurn) (d e : Content) : Type 0 where
+  pub shows : MeetsAt (IsShown (folder_in (chain_in s)) d) s turn
   pub dirs : (q : Dir) → e.dir q ≡ d.dir q
   pub others : (q : Place) → q.dir ≢ folder_in (chain_in s) → e.file q ≡ d.file q
+  pub kept : (q : Place) → IsOther (chain_in s) q → e.file q ≡ d.file q
+  pub layers : (b : ℕ) (l : Layer) → IsLayerAt (chain_in s) b l → IsAlso (IsLayerStep l) (d.file (place_kept l)) (e.file (place_kept l))
   pub alike : ReadsAlike (image_kept (chain_in s)) (folder_in (chain_in s)) r x e
   pub after : MatchTurn turn
       (λ next. KnowsStage next host r x e)

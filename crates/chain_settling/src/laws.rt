@@ -1,10 +1,15 @@
 // Laws of images that are settled: contracts of functions that do nothing.
-ghost use Rattle.std.specs.Prelude.{◌≡◌, ℕ, List};
+ghost use Rattle.std.specs.Prelude.{◌≡◌, ◌≢◌, ◌+◌, ◌*◌, ℕ, List, length, Contains, Option, None};
 ghost use Rattle.sd_names.specs.declared.id.Id.{Id};
 ghost use Rattle.sd_names.specs.declared.place.Dir.{Dir};
+ghost use Rattle.sd_names.specs.declared.place.Name.{Name};
+ghost use Rattle.sd_names.specs.declared.place.Place.{Place};
 ghost use Rattle.shared_disk.specs.Content.{Content};
-ghost use Rattle.shared_disk.specs.Crash.{IsOutcome};
-ghost use Rattle.chain_gathering.specs.Knowing.{volumes_in};
+ghost use Rattle.shared_disk.specs.Crash.{DownLeaves, IsOutcome};
+ghost use Rattle.shared_disk.specs.NameCalls.{ShowsName};
+ghost use Rattle.chain_gathering.specs.Knowing.{AreSettled, volumes_in};
+ghost use Rattle.chain_gathering.specs.Names.{cost_of};
+ghost use Rattle.chain_gathering.specs.Steps.{IsShown};
 ghost use Rattle.chain_model.specs.Flat.{IsFlat};
 ghost use Rattle.chain_model.specs.Folder.{Volumes};
 ghost use Rattle.chain_model.specs.Reading.{IsReading};
@@ -12,13 +17,18 @@ ghost use Rattle.chain_model.specs.Records.{Image, Records, records_of};
 ghost use Rattle.chain_records.specs.Paths.{HasChain};
 ghost use Rattle.chain_records.specs.Settling.{ArePartlyRewritten};
 ghost use Rattle.shared_disk.specs.WellFormed.{IsWellFormed};
-ghost use Rattle.settling_steps.specs.Leftovers.{IsBegun, KnowsNames};
-ghost use Rattle.settling_steps.specs.declared.leftovers.Tidying.{Tidying};
+ghost use Rattle.settling_steps.specs.Leftovers.{IsPaid, IsRise, KnowsNames};
+ghost use Rattle.volume_chain.specs.Chain.{open_in, records_kept};
+ghost use Rattle.volume_chain.specs.Knowing.{KnowsChain};
 ghost use Rattle.volume_chain.specs.Stages.{IsOpen};
 ghost use Rattle.volume_chain.specs.declared.chain.Chain.{Chain};
-ghost use Rattle.chain_settling.specs.Alike.{ReadsAlike, folder_in, image_kept};
+ghost use Rattle.chain_settling.specs.Alike.{ReadsAlike};
+ghost use Rattle.chain_settling.specs.Was.{folder_in, image_kept};
+ghost use Rattle.chain_settling.specs.declared.settling.Settling.{Settling};
 ghost use Rattle.chain_settling.specs.Fit.{AreValid};
-ghost use Rattle.chain_settling.specs.Knowing.{HaveRoom, KnowsTidying};
+ghost use Rattle.chain_settling.specs.Knowing.{HaveRoom, IsSettledImage};
+ghost use Rattle.chain_settling.specs.Left.{IsCost};
+ghost use Rattle.chain_settling.specs.Settling.{BeginsTidying, Knows, Meets, SettlingTurn, folder_of, steps_left};
 
 /// A law: where an image reads alike, it does so on each outcome: each text says its old record or a rewritten one, the
 /// reading volume is the same, and each LEGAL volume reads as it did.
@@ -31,10 +41,35 @@ pub fn settling_survives_crashes()
         → ((v : Id) → HasChain r v) → IsFlat r flats x → IsFlat (records_of i (volumes_in dir o)) flats (volumes_in dir o) }
 {}
 
-/// A law: an image that is open is known to its settling, as it begins, where each record of the chain is valid, the
-/// identifiers of temporary names have sixteen bytes, and 64 bits hold the next whole length of each layer's file. What it
-/// reads as is what its texts and files say then.
+/// A law: an image that is open is known to its settling, as it begins, where the identifiers of temporary names have sixteen
+/// bytes, and 64 bits hold the next whole length of each layer's file. What it reads as is what its texts and files say then.
 pub fn open_chains_are_known()
-    ensures { (c : Chain) (t : Tidying) (host : ℕ) (d : Content) → IsOpen c host d → AreValid c → IsWellFormed d → KnowsNames (folder_in c) d → HaveRoom c d → IsBegun (folder_in c) t
-        → KnowsTidying c t host (records_of (image_kept c) (volumes_in (folder_in c) d)) (volumes_in (folder_in c) d) d }
+    ensures { (c : Chain) (s : Settling) (host : ℕ) (d : Content) → IsOpen c host d → IsWellFormed d → KnowsNames (folder_in c) d → HaveRoom c d → BeginsTidying c s
+        → Knows s host (records_of (image_kept c) (volumes_in (folder_in c) d)) (volumes_in (folder_in c) d) d }
+{}
+
+/// A law: what a settling knows stays known whatever else changes on the disk while the image's folder is there and each of
+/// its files stays, and where another host goes down.
+pub fn known_settlings_stay_known()
+    ensures untouched { (s : Settling) (host : ℕ) (r : Records) (x : Volumes) (d e : Content) → IsWellFormed e → e.dir (folder_of s) ≡ d.dir (folder_of s)
+        → ((q : Place) → q.dir ≡ folder_of s → e.file q ≡ d.file q) → Knows s host r x d → Knows s host r x e }
+    ensures down { (s : Settling) (host other : ℕ) (r : Records) (x : Volumes) (d e : Content) → host ≢ other → DownLeaves d other e → Knows s host r x d → Knows s host r x e }
+{}
+
+/// A law: how many steps a settling takes. `falls` of its steps makes one number fall, where the names that are listed are paid
+/// for. They are where the folder shows them and each costs what it takes, as twice what `chain_gathering` counts for it: for N
+/// names, among them f files and t texts of volumes, that is 2 N + 2 f + 4 t. The number begins at what all names cost, nine
+/// for each volume of the path, twelve for each volume, and five.
+pub fn settlings_are_short()
+    ensures begun { (c : Chain) (s : Settling) (cost : Option Name → ℕ) → BeginsTidying c s → steps_left cost s ≡ cost None + 9 * length (open_in c) + 12 * length (records_kept c) + 5 }
+    ensures paid { (s : Settling) (turn : SettlingTurn) (d : Content) (cost : Option Name → ℕ) → IsCost (folder_of s) d cost → Meets IsRise s turn → Meets (IsShown (folder_of s) d) s turn
+        → Meets (IsPaid cost) s turn }
+    ensures counted { (dir : Dir) (d : Content) (names : List Name) → ((n : Name) → ShowsName d dir n → Contains names n) → IsCost dir d (λ before. 2 * cost_of names before) }
+{}
+
+/// A law: the chain of a settled image is known as that of an opening, and nothing is unsynced in the files and texts of its
+/// volumes, so that a reader or a writer of the chain can begin. `Settling::step` keeps each record valid.
+pub fn settled_chains_are_known()
+    ensures known { (c : Chain) (host : ℕ) (r : Records) (x : Volumes) (d : Content) → IsSettledImage c host r x d → AreValid c → KnowsChain c host d }
+    ensures settled { (c : Chain) (host : ℕ) (r : Records) (x : Volumes) (d : Content) → IsSettledImage c host r x d → AreSettled (folder_in c) d }
 {}

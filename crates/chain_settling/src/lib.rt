@@ -9,5 +9,8 @@ mod settling;
 mod stages;
 mod texts;
 
-pub use laws::{open_chains_are_known, settling_survives_crashes};
+pub use laws::{
+    known_settlings_stay_known, open_chains_are_known, settled_chains_are_known,
+    settling_survives_crashes, settlings_are_short,
+};
 pub use settling::Settling;

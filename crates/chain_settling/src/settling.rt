@@ -27,12 +27,14 @@ pub struct Settling {
 }
 
 impl Settling {
-    ghost use Rattle.chain_settling.specs.Settling.{IsBegun, Keeps, Meets, Nears, SettlesOn, stage_of};
+    ghost use Rattle.chain_settling.specs.Settling.{BeginsTidying, IsBegun, Keeps, Meets, Nears, SettlesOn, stage_of};
 
-    /// The settling of an open image, of which each record is valid.
+    /// The settling of an open image, of which each record is valid, as all are of a chain that was opened. It makes no call of
+    /// the disk.
     pub fn begin(chain: Chain) -> Settling
         requires { AreValid chain }
-        ensures { IsBegun chain result }
+        ensures begun { IsBegun chain result }
+        ensures tidies { BeginsTidying chain result }
     {
         let _path = chain.volumes().len();
         let _list = chain.records().len();

@@ -1,4 +1,4 @@
-use Rattle.std.proofs.Common.{◌≡◌, None, Option, sym, ap, ◌∙◌, subst, inl, inr}
+use Rattle.std.proofs.Common.{sym, ap, ◌∙◌, subst, inl, inr}
 use Rattle.sd_names.specs.declared.id.Id.{Id}
 use Rattle.chain_records.specs.Records.{records_in}
 use Rattle.chain_records.specs.Settling.{IsOver}

@@ -2,7 +2,6 @@ use Rattle.std.proofs.Common.{◌≡◌, List, None, Some, refl, sym, ap, ◌∙
 use Rattle.std.specs.Prelude.{slice_get}
 use Rattle.std.proofs.lemmas.Option.{slice_get_read, slice_get_within}
 use Rattle.chain_records.specs.Records.{records_in}
-use Rattle.chain_records.specs.declared.volume.Volume.{Volume}
 use Rattle.qcow_layer.specs.declared.layer.Layer.{Layer}
 use Rattle.volume_chain.specs.Chain.{open_in, records_kept}
 use Rattle.volume_chain.specs.declared.volumes.OpenVolume.{OpenVolume}

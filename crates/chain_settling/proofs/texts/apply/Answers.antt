@@ -1,4 +1,3 @@
-use Rattle.std.proofs.Common.{sym, subst}
 use Rattle.chain_settling.proofs.Valid.{valid_changed}
 use Rattle.chain_settling.specs.declared.texts.Change.TheVariants.{Parent, Voltype}
 use Rattle.chain_settling.proofs.texts.apply.Goals as goal

@@ -1,13 +1,6 @@
-use Rattle.std.proofs.Common.{◌≡◌, ◌<◌, ◌^◌, ℕ, List, length, Option, Some, None, refl, sym, ap, ◌∙◌, subst}
-use Rattle.volume_meta.specs.declared.record.VolumeRecord.{VolumeRecord}
+use Rattle.std.proofs.Common.{List, sym, ap, ◌∙◌}
 use Rattle.chain_records.specs.Records.{records_in}
 use Rattle.chain_records.specs.declared.volume.Volume.{Volume}
-use Rattle.volume_chain.specs.Chain.{open_in, records_kept, target_of}
-use Rattle.volume_chain.specs.Parts.{with_records}
-use Rattle.volume_chain.specs.declared.chain.Chain.{Chain}
-use Rattle.chain_settling.specs.Fit.{AreValid, IsFit, IsSameChain}
-use Rattle.chain_settling.specs.declared.stages.Stage.{Stage}
-use Rattle.chain_settling.specs.declared.stages.Stage.TheVariants as stages
 use Rattle.chain_settling.proofs.Started.{begun_text, fit_text, never_without, same_chain}
 use Rattle.chain_settling.proofs.Valid.{can_be_written}
 use Rattle.chain_settling.proofs.texts.begin_text.Goals as goal

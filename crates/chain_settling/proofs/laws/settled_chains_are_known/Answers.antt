@@ -1,0 +1,8 @@
+use Rattle.chain_settling.proofs.Known.{all_settled, chain_known}
+use Rattle.chain_settling.proofs.laws.settled_chains_are_known.Goals as goal
+
+pub returns-clause-known : goal.returns-clause-known
+returns-clause-known c chain host r x d is valid = chain_known chain host r x d is valid
+
+pub returns-clause-settled : goal.returns-clause-settled
+returns-clause-settled c chain host r x d is = all_settled chain host r x d is
