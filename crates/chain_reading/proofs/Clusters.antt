@@ -26,7 +26,7 @@ use Rattle.chain_reading.specs.declared.running.Run.{Run}
 use Rattle.chain_reading.proofs.Looks.{raw_asked}
 use Rattle.chain_reading.proofs.Moving.{IsOpenHere}
 use Rattle.chain_reading.proofs.Numbers.{narrow, within}
-use Rattle.chain_reading.proofs.Standing.{each_skipped}
+use Rattle.chain_reading.proofs.Standing.{each_skipped, still_from}
 
 same_volume : (o : Option Id) (a b : Id) → o ≡ Some a → o ≡ Some b → a ≡ b
 same_volume o a b e f = cc
@@ -85,6 +85,7 @@ take_moves p next r c x a part place stage k h takes moved knows = record {
   run = λ u g is j low high. run u g is j low high;
   low = λ less. bound less takes.how;
   inside = omega (arith, to, takes.to, knows.inside, past_low);
+  from = still_from p next c moved.part (omega (arith, moved.index)) knows.from;
 }
   where
     from : next.run.from ≡ r.from
@@ -136,7 +137,7 @@ take_moves p next r c x a part place stage k h takes moved knows = record {
         ∙ ap (λ (f : File). Some (sector_in f.size f.stable (next.run.sector + (j - next.run.from)))) file
 
 -- the rest of the part in a raw volume is a run
-pub raw_moves : (p next : ReadPart) (r : Run) (c : Chain) (host : ℕ) (x : Volumes) (d : Content) (a : Asked) (part : List ℕ) (stage : Stage) → KnowsImage c host x d → IsOpenHere p c x a
+pub raw_moves : (p next : ReadPart) (r : Run) (c : Chain) (host : ℕ) (x : Volumes) (d : Content) (a : Asked) (part : List ℕ) (stage : Stage) → KnowsImage c p.volume host x d → IsOpenHere p c x a
     → TakesRaw p a (length part / 512) r → RunsOn p r stage next → 512 * p.first + length part ≤ 2 ^ 64 → KnowsPart p c x part → KnowsPart next c x part
 raw_moves p next r c host x d a part stage k h takes moved ends knows = record {
   each = λ j inside. each_skipped p next c x part h.volume h.file moved.part moved.index moved.missing h.is (omega (arith, from, takes.from, takes.free))
@@ -144,6 +145,7 @@ raw_moves p next r c host x d a part stage k h takes moved ends knows = record {
   run = λ u g is j low high. run h.opened (ap (λ (b : Asked). b.cluster) h.asked ∙ takes.raw) h.open_is u g is j low high;
   low = λ less. omega (arith, sector, takes.sector, takes.some, takes.to, ends);
   inside = omega (arith, to, takes.to);
+  from = still_from p next c moved.part (omega (arith, moved.index)) knows.from;
 }
   where
     from : next.run.from ≡ r.from
@@ -165,5 +167,5 @@ raw_moves p next r c host x d a part stage k h takes moved ends knows = record {
         let there : slice_get (path_in c) p.index ≡ Some u = ap (slice_get (path_in c)) (sym moved.index) ∙ is.volume in
         let volume : h.volume ≡ u = same_volume (slice_get (path_in c) p.index) h.volume u h.is.volume there in
         let inside : next.first + j < sectors_in c u = omega (arith, high, to, takes.to, moved.part.first, sectors, ap (sectors_in c) volume) in
-        raw_asked c host x d p.index u g n (next.first + j) k there opens is.file inside
+        raw_asked c p.volume host x d p.index u g n (next.first + j) k there opens is.file inside
         ∙ ap (λ m. Some (sector_in g.size g.stable m)) (omega (arith, sector, takes.sector, from, low, moved.part.first))

@@ -15,7 +15,7 @@ use Rattle.volume_chain.specs.declared.volumes.OpenVolume.{OpenVolume}
 use Rattle.volume_chain.specs.declared.volumes.OpenVolume.TheVariants as volumes
 use Rattle.chain_reading.specs.Asked.{asked_by, asked_in, asked_of, end_in, sectors_in}
 use Rattle.chain_reading.specs.Choosing.{NoneMissing, is_free, past}
-use Rattle.chain_reading.specs.Knowing.{IsAsked, KnowsImage, KnowsPart, records_of}
+use Rattle.chain_reading.specs.Knowing.{IsAsked, IsReadable, KnowsImage, KnowsPart, place_on, records_of}
 use Rattle.chain_reading.specs.Laying.{AreZeros, IsLaid, is_missing}
 use Rattle.chain_reading.specs.Reading.{IsBehind, IsPassed, RunsOn}
 use Rattle.chain_reading.specs.Running.{HasSectors}
@@ -25,7 +25,7 @@ use Rattle.chain_reading.specs.declared.part.Stage.{Stage}
 use Rattle.chain_reading.specs.declared.running.Run.{Run}
 use Rattle.chain_reading.proofs.Looks.{none_asked}
 use Rattle.chain_reading.proofs.Owning.{along_at, cow_record}
-use Rattle.chain_reading.proofs.Standing.{each_laid, each_passed, each_skipped}
+use Rattle.chain_reading.proofs.Standing.{each_laid, each_passed, each_skipped, still_from}
 
 -- ---- the volume that is asked
 
@@ -55,20 +55,23 @@ file_there c host d v (volumes.Cow l) is known =
     let says = cow_record (target_of c) v l (records_of c v) is in
     (known.file, ap (λ (t : layers.Target). d.file t.place) (sym says.3) ∙ known.there)
 
-pub open_here : (p : ReadPart) (c : Chain) (host : ℕ) (x : Volumes) (d : Content) (a : Asked) → KnowsImage c host x d → asked_in c p.index ≡ Some a → IsOpenHere p c x a
-open_here p c host x d a k e = go (parts c (slice_get (path_in c) p.index) (slice_get (open_in c) p.index) a e)
+pub open_here : (p : ReadPart) (c : Chain) (host : ℕ) (x : Volumes) (d : Content) (a : Asked) → KnowsImage c p.volume host x d → place_on p.volume (path_in c) ≤ p.index → asked_in c p.index ≡ Some a → IsOpenHere p c x a
+open_here p c host x d a k from e = go (parts c (slice_get (path_in c) p.index) (slice_get (open_in c) p.index) a e)
   where
     go : (v : Id) × (w : OpenVolume) × (slice_get (path_in c) p.index ≡ Some v) × (slice_get (open_in c) p.index ≡ Some w) × (asked_of c v w ≡ a) → IsOpenHere p c x a
     go q =
-        let shown = along_at (λ u o. IsOpenAs (target_of c) u (records_of c u) o) (path_in c) (open_in c) p.index q.0 q.1 k.chain.shape.each q.2 q.3 in
-        let known = along_at (λ u o. IsKnown (target_of c) host d u o) (path_in c) (open_in c) p.index q.0 q.1 k.chain.known q.2 q.3 in
-        let there = file_there c host d q.0 q.1 shown known in
-        let f = file_before (x.file q.0) (d.file (place_in (target_of c) q.0)) there.0 (k.longer.file q.0) there.1 in
+        let shown = along_at (λ u o. IsOpenAs (target_of c) u (records_of c u) o) (path_in c) (open_in c) p.index q.0 q.1 k.shape.each q.2 q.3 in
+        let readable : IsReadable c host x d q.0 q.1 = k.each p.index q.0 q.1 (record { from = from; volume = q.2; opened = q.3 }) in
+        let there = file_there c host d q.0 q.1 shown readable.known in
+        let f = file_before (x.file q.0) (d.file (place_in (target_of c) q.0)) there.0 readable.longer there.1 in
         record { volume = q.0; opened = q.1; file = f.0; is = record { volume = q.2; file = f.1 }; open_is = q.3; asked = q.4 }
+
+pub readable_here : (p : ReadPart) (c : Chain) (host : ℕ) (x : Volumes) (d : Content) (a : Asked) → KnowsImage c p.volume host x d → place_on p.volume (path_in c) ≤ p.index → (h : IsOpenHere p c x a) → IsReadable c host x d h.volume h.opened
+readable_here p c host x d a k from h = k.each p.index h.volume h.opened (record { from = from; volume = h.is.volume; opened = h.open_is })
 
 -- ---- the run is read
 
-pub read_moves : (p next : ReadPart) (c : Chain) (host : ℕ) (x : Volumes) (d : Content) (part part' bytes : List ℕ) (v : Id) (f g : File) (stage : Stage) → KnowsImage c host x d → IsAsked p c x v f
+pub read_moves : (p next : ReadPart) (c : Chain) (host : ℕ) (x : Volumes) (d : Content) (part part' bytes : List ℕ) (v : Id) (f g : File) (stage : Stage) → KnowsImage c p.volume host x d → IsAsked p c x v f
     → IsLonger f g → IsBehind p p.run.to stage next → KnowsPart p c x part → HasSectors p.run g bytes → IsLaid p.missing next.missing part part' p.run.from p.run.to bytes → KnowsPart next c x part'
 read_moves p next c host x d part part' bytes v f g stage k asked longer moved knows has lays = record {
   each = λ j fits. each_laid p next c x part part' bytes v f p.run.from moved.part moved.index asked (omega arith) refl (omega (arith, moved.from, p.run.order)) held
@@ -76,6 +79,7 @@ read_moves p next c host x d part part' bytes v f g stage k asked longer moved k
   run = λ u h is j low high. absurd (omega (arith, low, high, moved.from, moved.to));
   low = λ less. absurd (omega (arith, less, moved.from, moved.to));
   inside = omega (arith, knows.inside, moved.to, lays.len);
+  from = still_from p next c moved.part (omega (arith, moved.index)) knows.from;
 }
   where
     held : (j : ℕ) → p.run.from ≤ j → j < next.run.from → own (records_of c) x v (p.first + j) ≡ Some (sector_of bytes (j - p.run.from))
@@ -95,6 +99,7 @@ zero_moves p next c x part part' bytes v f end stage asked free order few moved 
   run = λ u h is j low high. absurd (omega (arith, low, high, moved.from, moved.to));
   low = λ less. absurd (omega (arith, less, moved.from, moved.to));
   inside = omega (arith, fits, moved.to, lays.len);
+  from = still_from p next c moved.part (omega (arith, moved.index)) knows.from;
 }
 
 pub skip_moves : (p next : ReadPart) (r : Run) (c : Chain) (x : Volumes) (part : List ℕ) (v : Id) (f : File) (stage : Stage) → IsAsked p c x v f
@@ -109,6 +114,7 @@ skip_moves p next r c x part v f stage asked free order empty moved knows fits n
       run = λ u h is j low high. absurd (omega (arith, low, high, from, to, empty));
       low = λ less. absurd (omega (arith, less, from, to, empty));
       inside = omega (arith, fits, to);
+      from = still_from p next c moved.part (omega (arith, moved.index)) knows.from;
     }
 
 pub pass_moves : (p next : ReadPart) (c : Chain) (x : Volumes) (a : Asked) (part : List ℕ) → IsOpenHere p c x a
@@ -118,6 +124,7 @@ pass_moves p next c x a part h free none moved knows = record {
   run = λ u g is j low high. absurd (omega (arith, low, high, moved.from, moved.to));
   low = λ less. absurd (omega (arith, less, moved.from, moved.to));
   inside = omega (arith, moved.to);
+  from = still_from p next c moved.part (omega (arith, moved.index)) knows.from;
 }
   where
     held : (j : ℕ) → 512 * (j + 1) ≤ length part → p.run.from ≤ j → is_missing p.missing j ≡ true → own (records_of c) x h.volume (p.first + j) ≡ None

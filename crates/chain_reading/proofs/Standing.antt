@@ -80,6 +80,12 @@ module _ (p next : ReadPart) (c : Chain) (x : Volumes) (part part' : List ℕ) (
       go true e = stands false j m (λ f. absurd (false≢true f)) (λ _. found e)
       go false e = stands false j m (λ f. absurd (false≢true f)) (λ _. sector e ∙ is_there p c x part j was e)
 
+-- the volume that is asked is the one that is read or stands below it
+pub still_from : (p next : ReadPart) (c : Chain) → IsSamePart p next → p.index ≤ next.index → place_on p.volume (path_in c) ≤ p.index → place_on next.volume (path_in c) ≤ next.index
+still_from p next c same later from =
+    let at : place_on next.volume (path_in c) ≡ place_on p.volume (path_in c) = ap (λ (v : Id). place_on v (path_in c)) same.volume in
+    omega (arith, at, later, from)
+
 -- ---- the moves
 
 -- an index that is asked next before and after

@@ -45,16 +45,16 @@ use Rattle.chain_reading.specs.declared.part.Stage.TheVariants.{Begun, Asking, L
 use Rattle.chain_reading.specs.declared.running.Run.{Run}
 use Rattle.chain_reading.proofs.Clusters.{cluster_held, raw_moves, take_moves}
 use Rattle.chain_reading.proofs.Looks.{here, looked_on}
-use Rattle.chain_reading.proofs.Moving.{IsOpenHere, open_here, pass_moves, read_moves, skip_moves, zero_moves}
+use Rattle.chain_reading.proofs.Moving.{IsOpenHere, open_here, pass_moves, read_moves, readable_here, skip_moves, zero_moves}
 use Rattle.chain_reading.proofs.Paths.{path_from}
-use Rattle.chain_reading.proofs.Standing.{each_found, each_skipped, each_zero}
+use Rattle.chain_reading.proofs.Standing.{each_found, each_skipped, each_zero, still_from}
 
 -- ---- more is to do
 
 knows_next : (stage stage' : Stage) (p q : ReadPart) (c : Chain) (host : ℕ) (x : Volumes) (part part' : List ℕ) (d : Content) → q.stage ≡ stage' → IsSamePart p q → length part' ≡ length part
     → KnowsIn stage p c host x part d → KnowsSoFar stage' q c x part' → Knows q c host x part' d
 knows_next stage stage' p q c host x part part' d is same len k now = record {
-  image = k.image;
+  image = subst (λ (v : Id). KnowsImage c v host x d) (sym same.volume) k.image;
   volume = subst (λ (v : Id). Contains (path_in c) v) (sym same.volume) k.volume;
   ends = omega (arith, k.ends, same.first, len);
   so_far = subst (λ s. KnowsSoFar s q c x part') (sym is) now;
@@ -80,6 +80,7 @@ finds p q c host part d few found = goes Begun Asking p q c host part part d fou
   run = λ u h is j low high. absurd (omega (arith, low, high, found.from, found.to));
   low = λ less. absurd (omega (arith, less, found.from, found.to));
   inside = omega (arith, found.to);
+  from = let at : place_on q.volume (path_in c) ≡ place_on p.volume (path_in c) = ap (λ (v : Id). place_on v (path_in c)) found.part.volume in omega (arith, at, found.index);
 })
 
 -- ---- no volume is left
@@ -94,10 +95,10 @@ ended c n None q e s t all = none_past (path_in c) n s
 ended c n (Some v) None e s t all = let le = none_past (open_in c) n t in omega (arith, le, all)
 ended c n (Some v) (Some w) e s t all = absurd cc
 
-reads_flat : (p : ReadPart) (c : Chain) (host : ℕ) (x : Volumes) (d : Content) (j : ℕ) → KnowsImage c host x d → Contains (path_in c) p.volume → (us : List Id) → IsBelow (records_of c) p.volume us
+reads_flat : (p : ReadPart) (c : Chain) (host : ℕ) (x : Volumes) (d : Content) (j : ℕ) → KnowsImage c p.volume host x d → Contains (path_in c) p.volume → (us : List Id) → IsBelow (records_of c) p.volume us
     → wanted p c x j ≡ flat (records_of c) x p.volume us (p.first + j)
 reads_flat p c host x d j k on us at =
-    let reading = k.chain.shape.reading in
+    let reading = k.shape.reading in
     let path : path_in c ≡ path_of (records_of c) reading.0 reading.1 = reading.3 in
     let there : Contains (path_of (records_of c) reading.0 reading.1) p.volume = subst (λ (vs : List Id). Contains vs p.volume) path on in
     ap (λ (vs : List Id). first_of (records_of c) x (drop (place_on p.volume vs) vs) (p.first + j)) path
@@ -109,7 +110,7 @@ finishes p c host before after d few none lays = record {
   same = refl;
   gone = tt;
   leaves = λ x k us at j inside.
-      let past = ended c p.index (slice_get (path_in c) p.index) (slice_get (open_in c) p.index) none refl refl k.image.chain.all in
+      let past = ended c p.index (slice_get (path_in c) p.index) (slice_get (open_in c) p.index) none refl refl k.image.all in
       let laid = lays.1.2 in
       let len = laid.len in
       each_zero p c x before after lays.1.0 lays.0 (length before / 512) j past lays.1.1 (omega (arith, inside, few, len)) (omega (arith, inside, len)) laid (k.so_far.each j (omega (arith, inside, len)))
@@ -121,12 +122,12 @@ finishes p c host before after d few none lays = record {
 pub passes : (p q : ReadPart) (c : Chain) (host : ℕ) (a : Asked) (part : List ℕ) (d : Content) → asked_in c p.index ≡ Some a → IsNext p a (length part / 512) next.Pass → IsPassed p q
     → Goes Asking p c host part part q d
 passes p q c host a part d e is moved = goes Asking Asking p q c host part part d moved.stage_is moved.part refl
-    (λ x k. pass_moves p q c x a part (open_here p c host x d a k.image e) is.0 is.1 moved k.so_far)
+    (λ x k. pass_moves p q c x a part (open_here p c host x d a k.image k.so_far.from e) is.0 is.1 moved k.so_far)
 
 pub takes_raw : (p q : ReadPart) (r : Run) (c : Chain) (host : ℕ) (a : Asked) (part : List ℕ) (d : Content) → asked_in c p.index ≡ Some a → IsNext p a (length part / 512) (next.Take r) → RunsOn p r Asking q
     → Goes Asking p c host part part q d
 takes_raw p q r c host a part d e is moved = goes Asking Asking p q c host part part d moved.stage_is moved.part refl
-    (λ x k. raw_moves p q r c host x d a part Asking k.image (open_here p c host x d a k.image e) is moved k.ends k.so_far)
+    (λ x k. raw_moves p q r c host x d a part Asking k.image (open_here p c host x d a k.image k.so_far.from e) is moved k.ends k.so_far)
 
 -- the same run, and the same all else
 record IsOpenAt (p : ReadPart) (c : Chain) (x : Volumes) : Type 0 where
@@ -147,6 +148,7 @@ stays p q c x part stage h moved knows =
           ∙ ap (λ n. Some (sector_in g.size g.stable n)) (omega (arith, sector, from));
       low = λ less. omega (arith, sector, knows.low (omega (arith, less, from, to)));
       inside = omega (arith, to, knows.inside);
+      from = still_from p q c moved.part (omega (arith, moved.index)) knows.from;
     }
 
 looked_next : (p q : ReadPart) (r : Run) (c : Chain) (x : Volumes) (part : List ℕ) (stage : Stage) (a : Asked) → IsOpenHere p c x a → LooksNext p a (length part / 512) r → RunsOn p r stage q
@@ -165,7 +167,7 @@ layer_of_cluster (volumes.Cow l) width e = (l, refl)
 
 pub looks : (p q : ReadPart) (r : Run) (l : looking.Looking) (c : Chain) (host : ℕ) (a : Asked) (part : List ℕ) (d : Content) → asked_in c p.index ≡ Some a → IsNext p a (length part / 512) (next.Look r)
     → cluster_of l ≡ cluster_number a.cluster p.first r.to → table_of l ≡ None → RunsOn p r (Looking l) q → Goes Asking p c host part part q d
-looks p q r l c host a part d e is cluster table moved = goes Asking (Looking l) p q c host part part d moved.stage_is moved.part refl (λ x k. now x k (open_here p c host x d a k.image e))
+looks p q r l c host a part d e is cluster table moved = goes Asking (Looking l) p q c host part part d moved.stage_is moved.part refl (λ x k. now x k (open_here p c host x d a k.image k.so_far.from e))
   where
     now : (x : Volumes) → KnowsIn Asking p c host x part d → IsOpenHere p c x a → KnowsPart q c x part × KnowsLooking q c x l
     now x k h = (looked_next p q r c x part (Looking l) a h is moved k.so_far, begun (layer_of_cluster h.opened is.width (ap (λ (b : Asked). b.cluster) h.asked ∙ is.layer)))
@@ -222,7 +224,7 @@ entry_stays p q c x e index first to k =
 module _ (p : ReadPart) (c : Chain) (host : ℕ) (l : looking.Looking) (part : List ℕ) (d e : Content) where
   found_on : (turn : Turn looking.Looking Looked (Unit {0})) (x : Volumes) → LooksAt c p.index l host turn d e → KnowsIn (Looking l) p c host x part d
       → MatchTurn turn (λ next. KnowsLooking p c x next) (λ looked. KnowsEntry p c x looked.entry) (λ _ refusal. IsFault refusal)
-  found_on turn x looks k = looked_on p c host x d e l turn k.image k.so_far.1 (looks.looks k.so_far.1.layer k.so_far.1.asked.layer)
+  found_on turn x looks k = looked_on p c host x d e l turn k.image k.so_far.0.from k.so_far.1 (looks.looks k.so_far.1.layer k.so_far.1.asked.layer)
 
   open_still : (x : Volumes) → KnowsIn (Looking l) p c host x part d → KnowsPart p c x part × IsOpenAt p c x
   open_still x k = (k.so_far.0, record { volume = k.so_far.1.asked.volume; file = k.so_far.1.file; is = k.so_far.1.asked.is })
@@ -271,7 +273,7 @@ past_low (Some s) first at end = omega arith
 pub takes : (p q : ReadPart) (r : Run) (e : Entry) (c : Chain) (host : ℕ) (a : Asked) (part : List ℕ) (d : Content) → asked_in c p.index ≡ Some a → IsFit p a (length part / 512) e (fit.Take r) → RunsOn p r Asking q
     → Goes (Found e) p c host part part q d
 takes p q r e c host a part d is fits moved = goes (Found e) Asking p q c host part part d moved.stage_is moved.part refl
-    (λ x k. take_moves p q r c x a part fits.0 Asking (subst (λ (f : Entry). KnowsEntry p c x f) fits.1 k.so_far.1) (open_here p c host x d a k.image is) fits.2 moved k.so_far.0)
+    (λ x k. take_moves p q r c x a part fits.0 Asking (subst (λ (f : Entry). KnowsEntry p c x f) fits.1 k.so_far.1) (open_here p c host x d a k.image k.so_far.0.from is) fits.2 moved k.so_far.0)
 
 pub skips : (p q : ReadPart) (r : Run) (e : Entry) (end : ℕ) (c : Chain) (host : ℕ) (a : Asked) (part : List ℕ) (d : Content) → asked_in c p.index ≡ Some a → IsFit p a (length part / 512) e (fit.Skip end)
     → r.from ≡ end → r.to ≡ end → RunsOn p r Asking q → Goes (Found e) p c host part part q d
@@ -282,7 +284,7 @@ skips p q r e end c host a part d is fits from to moved = goes (Found e) Asking 
         let bound = past_bound a.cluster p.first p.run.to (end_in a p.first (length part / 512)) in
         let low = past_low a.cluster p.first p.run.to (end_in a p.first (length part / 512)) in
         skip_moves p q r c x part y.asked.volume y.file Asking y.asked.is fits.1 (omega (arith, from, fits.2, low)) (from ∙ sym to) moved k.so_far.0 (omega (arith, to, fits.2, bound, k.so_far.0.inside))
-        (λ j least less m. cluster_held p c x a (length part / 512) Absent y (open_here p c host x d a k.image is) j least (omega (arith, less, from, fits.2)))
+        (λ j least less m. cluster_held p c x a (length part / 512) Absent y (open_here p c host x d a k.image k.so_far.0.from is) j least (omega (arith, less, from, fits.2)))
 
 pub zeros : (p q : ReadPart) (e : Entry) (end : ℕ) (c : Chain) (host : ℕ) (a : Asked) (before after : List ℕ) (d : Content) → length before ≤ 65536 → length after ≡ length before → asked_in c p.index ≡ Some a
     → IsFit p a (length before / 512) e (fit.Zeros end) → IsBehind p end Asking q → (512 * end ≤ length before → LaysZeros p.missing q.missing before after p.run.to end) → Goes (Found e) p c host before after q d
@@ -295,7 +297,7 @@ zeros p q e end c host a before after d few len is fits moved lays = goes (Found
         let inside : 512 * end ≤ length before = omega (arith, fits.3, bound, k.so_far.0.inside) in
         let laid = lays inside in
         zero_moves p q c x before after laid.0 y.asked.volume y.file end Asking y.asked.is fits.2 (omega (arith, fits.3, low)) (omega (arith, inside, few)) moved k.so_far.0 inside laid.1 laid.2
-        (λ j least less. cluster_held p c x a (length before / 512) (Zero fits.0) y (open_here p c host x d a k.image is) j least (omega (arith, less, fits.3)))
+        (λ j least less. cluster_held p c x a (length before / 512) (Zero fits.0) y (open_here p c host x d a k.image k.so_far.0.from is) j least (omega (arith, less, fits.3)))
 
 -- where the path has no such volume the entry says nothing
 pub lost : (p q : ReadPart) (e : Entry) (c : Chain) (host : ℕ) (part : List ℕ) (d : Content) → asked_in c p.index ≡ None → RunsOn p p.run Asking q → Goes (Found e) p c host part part q d
@@ -325,12 +327,12 @@ module _ (stage : Stage) (p : ReadPart) (c : Chain) (host : ℕ) (a : Asked) (be
   filled (More q) less moved fills = record {
     same = fills.same;
     gone = tt;
-    leaves = λ x k. subst (λ (z : Content). Knows q c host x after z) (sym fills.same) (now x k (open_here p c host x d a k.image there));
+    leaves = λ x k. subst (λ (z : Content). Knows q c host x after z) (sym fills.same) (now x k (open_here p c host x d a k.image (so_far x k).from there));
   }
     where
       now : (x : Volumes) → KnowsIn stage p c host x before d → IsOpenHere p c x a → Knows q c host x after d
       now x k h =
-          let f = here c host x d h.volume h.file k.image h.is.file in
+          let f = here c host x d h.volume h.opened h.file (readable_here p c host x d a k.image (so_far x k).from h) h.is.file in
           let place : a.place ≡ place_in (target_of c) h.volume = ap (λ (b : Asked). b.place) (sym h.asked) in
           let known = so_far x k in
           let lays = fills.leaves f.file (ap (λ (z : Place). d.file z) place ∙ f.there) f.settled (known.low less) known.inside in
@@ -341,12 +343,12 @@ module _ (stage : Stage) (p : ReadPart) (c : Chain) (host : ℕ) (a : Asked) (be
   filled (Ended b refusal) less moved fills = record {
     same = fills.same;
     gone = let v = asked_volume c (slice_get (path_in c) p.index) (slice_get (open_in c) p.index) a there in gone_at c p.index v.0 a.place faults refusal d v.1 v.2 fills.leaves;
-    leaves = λ x k. fails x k (open_here p c host x d a k.image there);
+    leaves = λ x k. fails x k (open_here p c host x d a k.image (so_far x k).from there);
   }
     where
       fails : (x : Volumes) → KnowsIn stage p c host x before d → IsOpenHere p c x a → IsFault refusal
       fails x k h =
-          let f = here c host x d h.volume h.file k.image h.is.file in
+          let f = here c host x d h.volume h.opened h.file (readable_here p c host x d a k.image (so_far x k).from h) h.is.file in
           let place : a.place ≡ place_in (target_of c) h.volume = ap (λ (b : Asked). b.place) (sym h.asked) in
           fault_of a.place faults refusal f.file d (ap (λ (z : Place). d.file z) place ∙ f.there) fills.leaves
 

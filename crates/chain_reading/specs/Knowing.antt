@@ -2,6 +2,7 @@
 use Rattle.std.specs.Prelude.{◌≡◌, ℕ, suc, ◌+◌, ◌-◌, ◌*◌, ◌/◌, ◌%◌, ◌^◌, ◌<◌, ◌≤◌, max, nat_lt, if◌then◌else◌, MatchBool, List, [], ◌∷◌, length, drop, slice_get, Contains, Option, Some, None}
 use Rattle.sd_names.specs.declared.id.Id.{Id}
 use Rattle.shared_disk.specs.Content.{Content, File, sector_of, zero_sector}
+use Rattle.shared_disk.specs.Crash.{IsAlso, IsSettled}
 use Rattle.shared_disk.specs.Places.{id_is}
 use Rattle.qcow_format.specs.declared.entry.Entry.{Entry}
 use Rattle.qcow_format.specs.declared.entry.Entry.TheVariants.{Absent, Zero, Data}
@@ -15,14 +16,14 @@ use Rattle.qcow_layer.specs.declared.looking.Looking as looks
 use Rattle.chain_model.specs.Chain.{IsBelow}
 use Rattle.chain_model.specs.Flat.{first_of, flat}
 use Rattle.chain_model.specs.Folder.{Volumes}
-use Rattle.chain_model.specs.Growth.{AreLonger}
+use Rattle.chain_model.specs.Growth.{IsLonger}
 use Rattle.chain_model.specs.Own.{own}
 use Rattle.chain_model.specs.Records.{Records}
 use Rattle.chain_records.specs.Records.{records_in}
-use Rattle.chain_gathering.specs.Knowing.{AreSettled, volumes_in}
-use Rattle.volume_chain.specs.Chain.{dir_in, open_in, path_in, records_kept, target_of}
-use Rattle.volume_chain.specs.Knowing.{KnowsChain}
+use Rattle.volume_chain.specs.Chain.{IsShaped, open_in, path_in, place_in, records_kept, target_of}
+use Rattle.volume_chain.specs.Knowing.{IsKnown}
 use Rattle.volume_chain.specs.declared.chain.Chain.{Chain}
+use Rattle.volume_chain.specs.declared.volumes.OpenVolume.{OpenVolume}
 use Rattle.volume_chain.specs.declared.volumes.OpenVolume.TheVariants.{Cow}
 use Rattle.chain_reading.specs.Asked.{cluster_number, cluster_sectors, sectors_in}
 use Rattle.chain_reading.specs.Laying.{is_missing}
@@ -116,6 +117,7 @@ pub record KnowsPart (p : ReadPart) (c : Chain) (x : Volumes) (part : List ℕ) 
   pub run : RunStands p c x
   pub low : p.run.from < p.run.to → p.run.sector < 2 ^ 55
   pub inside : 512 * p.run.to ≤ length part
+  pub from : place_on p.volume (path_in c) ≤ p.index
 
 -- what is known by the stage
 abbrev pub KnowsSoFar : Stage → ReadPart → Chain → Volumes → List ℕ → Type 0
@@ -124,16 +126,29 @@ KnowsSoFar Asking p c x part = KnowsPart p c x part
 KnowsSoFar (Looking looking) p c x part = KnowsPart p c x part × KnowsLooking p c x looking
 KnowsSoFar (Found entry) p c x part = KnowsPart p c x part × KnowsEntry p c x entry
 
--- A chain that knows its image, in which nothing is unsynced: its files are these, or longer.
-pub record KnowsImage (c : Chain) (host : ℕ) (x : Volumes) (d : Content) : Type 0 where
-  pub chain : KnowsChain c host d
-  pub settled : AreSettled (dir_in (target_of c)) d
-  pub longer : AreLonger x (volumes_in (dir_in (target_of c)) d)
+-- a volume of the path, at the index of this one or behind it, with its open file
+pub record IsFrom (c : Chain) (v : Id) (i : ℕ) (w : Id) (o : OpenVolume) : Type 0 where
+  pub from : place_on v (path_in c) ≤ i
+  pub volume : slice_get (path_in c) i ≡ Some w
+  pub opened : slice_get (open_in c) i ≡ Some o
+
+-- A volume that can be read: its file is what the chain knows of it, nothing is unsynced in it, and it is this one or longer.
+pub record IsReadable (c : Chain) (host : ℕ) (x : Volumes) (d : Content) (w : Id) (o : OpenVolume) : Type 0 where
+  pub known : IsKnown (target_of c) host d w o
+  pub settled : (f : File) → d.file (place_in (target_of c) w) ≡ Some f → IsSettled f
+  pub longer : IsAlso IsLonger (x.file w) (d.file (place_in (target_of c) w))
+
+-- What is known of the image to read this volume: the volumes of the path from it on can be read, which are all that are
+-- asked. Those before it may be written.
+pub record KnowsImage (c : Chain) (v : Id) (host : ℕ) (x : Volumes) (d : Content) : Type 0 where
+  pub shape : IsShaped c
+  pub all : length (open_in c) ≡ length (path_in c)
+  pub each : (i : ℕ) (w : Id) (o : OpenVolume) → IsFrom c v i w o → IsReadable c host x d w o
 
 -- What a read knows in a stage: the image, that its volume is one of the path, that the part ends at 2^64 at the latest, and
 -- what the part has so far.
 pub record KnowsIn (stage : Stage) (p : ReadPart) (c : Chain) (host : ℕ) (x : Volumes) (part : List ℕ) (d : Content) : Type 0 where
-  pub image : KnowsImage c host x d
+  pub image : KnowsImage c p.volume host x d
   pub volume : Contains (path_in c) p.volume
   pub ends : 512 * p.first + length part ≤ 2 ^ 64
   pub so_far : KnowsSoFar stage p c x part

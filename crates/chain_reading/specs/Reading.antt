@@ -15,7 +15,7 @@ use Rattle.qcow_layer.specs.Opening.{place_kept}
 use Rattle.qcow_layer.specs.Seen.{IsReadRefusal}
 use Rattle.qcow_layer.specs.declared.layer.Layer.{Layer}
 use Rattle.chain_model.specs.Folder.{Volumes}
-use Rattle.volume_chain.specs.Chain.{open_in, path_in, place_in, target_of}
+use Rattle.volume_chain.specs.Chain.{IsShaped, open_in, path_in, place_in, target_of}
 use Rattle.volume_chain.specs.declared.chain.Chain.{Chain}
 use Rattle.volume_chain.specs.declared.volumes.OpenVolume.TheVariants.{Cow}
 use Rattle.chain_reading.specs.Knowing.{IsReadAs, Knows, KnowsImage, KnowsIn, place_on}
@@ -50,8 +50,20 @@ pub record IsBegun (p : ReadPart) (v : Id) (at : ℕ) : Type 0 where
   pub volume : volume_of p ≡ v
   pub first : first_sector p ≡ at / 512
   pub left : (c : Chain) (count : ℕ) → steps_left p c count ≡ steps_from c (at / 512) count (place_on v (path_in c)) + 2
-  pub knows : (c : Chain) (host : ℕ) (x : Volumes) (part : List ℕ) (d : Content) → KnowsImage c host x d → Contains (path_in c) v
+  pub knows : (c : Chain) (host : ℕ) (x : Volumes) (part : List ℕ) (d : Content) → KnowsImage c v host x d → Contains (path_in c) v
       → at + length part ≤ 2 ^ 64 → Knows p c host x part d
+
+-- a volume of the path that is asked for this one: this one or one below it
+abbrev pub IsAskedFrom : Chain → Id → Id → Type 0
+IsAskedFrom c v w = (i : ℕ) × (place_on v (path_in c) ≤ i) × (slice_get (path_in c) i ≡ Some w)
+
+-- a second chain of the same path, with the same volumes open from this one on
+pub record IsAlikeFrom (c b : Chain) (v : Id) : Type 0 where
+  pub shape : IsShaped b
+  pub target : target_of b ≡ target_of c
+  pub path : path_in b ≡ path_in c
+  pub all : length (open_in b) ≡ length (open_in c)
+  pub opened : (i : ℕ) → place_on v (path_in c) ≤ i → slice_get (open_in b) i ≡ slice_get (open_in c) i
 
 -- the place of a volume of the path, or the one that its layer keeps
 abbrev pub IsOnPath : Chain → Place → Type 0
