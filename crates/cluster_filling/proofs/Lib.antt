@@ -1,0 +1,6 @@
+pub mod Counts
+pub mod Laid
+pub mod Medium
+pub mod Paths
+pub mod Steps
+pub mod Survives

@@ -1,0 +1,5 @@
+pub mod Cluster
+pub mod Filled
+pub mod Filling
+pub mod Laying
+pub mod Left
