@@ -1,5 +1,9 @@
 // The lists that a manager keeps, in room that was taken when it began.
-ghost use Rattle.std.specs.Prelude.{◌≡◌, ◌≤◌, [], length, IfOk};
+ghost use Rattle.std.specs.Prelude.{◌≡◌, ◌≤◌, [], length, not, IfOk};
+ghost use Rattle.std.specs.List.{filter, list_any};
+ghost use Rattle.sd_names.specs.declared.id.Id.{Id as AnyId};
+ghost use Rattle.sd_names.specs.declared.task_state.TaskState.{TaskState as AnyState};
+ghost use Rattle.shared_disk.specs.Places.{id_is};
 
 use sd_names::{Id, NoMemory, TaskState};
 use std::alloc::Global;
@@ -94,10 +98,31 @@ impl TaskList {
         self.tasks.extend_from_slice(tasks).unwrap()
     }
 
+    /// Whether the list has a task of this identifier.
+    pub fn has(&self, task: &Id) -> bool
+        ensures { result ≡ list_any (λ (a : AnyId × AnyState). id_is a.0 task.now) self.now }
+    {
+        self.tasks.iter().any(|pair| is_of(pair, task))
+    }
+
+    /// Takes the task of this identifier out of the list, where it is there.
+    pub fn remove(&mut self, task: &Id)
+        ensures { self.new ≡ filter (λ (a : AnyId × AnyState). not (id_is a.0 task.now)) self.old }
+    {
+        self.tasks.retain(|pair| !is_of(pair, task));
+    }
+
     /// The tasks, lent.
     pub fn as_slice(&self) -> &[(Id, TaskState)]
         ensures { result.now ≡ self.now }
     {
         &self.tasks
     }
+}
+
+// Whether a task of a list has this identifier.
+fn is_of(pair: &(Id, TaskState), task: &Id) -> bool
+    ensures { result ≡ id_is pair.now.0 task.now }
+{
+    pair.0.is(task)
 }
