@@ -2,3 +2,5 @@ pub mod Barred
 pub mod Stopping
 pub mod Knowing
 pub mod Beginning
+pub mod Filtered
+pub mod Clearing

@@ -1,12 +1,18 @@
 -- What a host keeps in its memory, as contracts see it.
-use Rattle.std.specs.Prelude.{◌≡◌, ℕ, List, [], Option, Some, None}
+use Rattle.std.specs.Prelude.{◌≡◌, ℕ, true, List, [], Option, Some, None}
+use Rattle.std.specs.List.{list_any}
 use Rattle.sd_names.specs.declared.id.Id.{Id}
 use Rattle.sd_names.specs.declared.task_state.TaskState.{TaskState}
+use Rattle.shared_disk.specs.Places.{id_is}
 use Rattle.lease_area.specs.declared.sector.LeaseRecord.{LeaseRecord}
 use Rattle.spm_role.specs.Spm.{domains_of, master_of, role_of, tasks_of}
 use Rattle.host_core.specs.declared.leading.Leading.{Leading}
 use Rattle.host_core.specs.declared.work.Work.{Work}
 use Rattle.host_core.specs.declared.work.Work.TheVariants as work
+
+-- a task of a list, with its state
+abbrev pub Listed : Type 0
+Listed = Id × TaskState
 
 -- The manager of a pool: the master, the lease that says so, the domains and tasks of the pool, and the task that it has
 -- begun and not ended.
@@ -14,7 +20,7 @@ pub record Leader : Type 0 where
   pub master : Id
   pub lease : LeaseRecord
   pub domains : List Id
-  pub tasks : List (Id × TaskState)
+  pub tasks : List Listed
   pub begun : Option Id
 
 abbrev pub leader_of : Leading → Leader
@@ -52,9 +58,15 @@ abbrev pub IsStopping : Option Leader → Type 0
 IsStopping None = ⊥
 IsStopping (Some l) = l.begun ≡ None
 
+-- whoever clears a task has it in its list too
+abbrev pub IsClearing : Id → Option Leader → Type 0
+IsClearing t None = ⊥
+IsClearing t (Some l) = (l.begun ≡ None) × (list_any (λ (a : Listed). id_is a.0 t) l.tasks ≡ true)
+
 abbrev pub IsFit : Option Work → Option Leader → Type 0
 IsFit None leading = Unit {0}
 IsFit (Some work.Stop) leading = IsStopping leading
+IsFit (Some (work.Clear t)) leading = IsClearing t leading
 
 pub record IsSound (id : ℕ) (leading : Option Leader) (work : Option Work) : Type 0 where
   pub own : IsOwn id leading

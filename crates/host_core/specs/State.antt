@@ -1,6 +1,6 @@
 -- A host as the pool's machine sees it: a function of its memory, and of what a claim takes from the begin of its verb.
 use Rattle.std.specs.Prelude.{List, [], ◌∷◌, Option, Some, None}
-use Rattle.pool_model.specs.Marks.{Mark, change, check, still_leads, yield}
+use Rattle.pool_model.specs.Marks.{Mark, change, check, clear, still_leads, yield}
 use Rattle.pool_model.specs.Role.{Role, leads, outside}
 use Rattle.pool_model.specs.State.{HostState, Kept, Running}
 use Rattle.pool_model.specs.Verb.{Verb}
@@ -18,6 +18,7 @@ role_by (Some l) = leads (record { master = l.master; version = l.lease.version;
 -- the verb of some work, and the marks that are still to come
 abbrev pub verb_of : Work → Verb
 verb_of work.Stop = verb.spm_stop
+verb_of (work.Clear t) = verb.clear_task t
 
 abbrev pub stop_marks : Option Leader → List Mark
 stop_marks None = []
@@ -25,6 +26,7 @@ stop_marks (Some l) = check (still_leads l.master l.lease.version) ∷ change (y
 
 abbrev pub marks_of : Work → Option Leader → List Mark
 marks_of work.Stop leading = stop_marks leading
+marks_of (work.Clear t) leading = change (clear t) ∷ []
 
 abbrev pub running_by : Kept → Memory → Option Work → Option Running
 running_by k x None = None
@@ -38,4 +40,5 @@ state_of k x = record { role = role_by x.leading; opened = λ s. None; running =
 -- those that a host runs
 abbrev pub IsHosted : Said → Type 0
 IsHosted said.SpmStop = Unit {0}
+IsHosted (said.ClearTask t) = Unit {0}
 IsHosted _ = ⊥

@@ -1,13 +1,17 @@
 -- One step of a host: what it answers, and what it leaves.
 -- Claim: on every disk that stands for a pool of which the host's memory speaks truly, a step is a turn of the pool's machine.
-use Rattle.std.specs.Prelude.{◌≡◌, ℕ, ◌+◌, ◌≤◌, List, [], Option, Some, None}
+use Rattle.std.specs.Prelude.{◌≡◌, ℕ, ◌+◌, ◌≤◌, List, [], Option, Some, None, Result, Ok, Err}
+use Rattle.std.specs.Option.{option_map}
 use Rattle.sd_names.specs.UpSet.{Hosts}
+use Rattle.sd_names.specs.declared.id.Id.{Id}
 use Rattle.sd_names.specs.declared.refusal.Refusal.{Refusal}
 use Rattle.sd_names.specs.declared.verb.Payload.{Payload}
 use Rattle.sd_names.specs.declared.verb.Payload.TheVariants as payload
 use Rattle.shared_disk.specs.Content.{Content}
+use Rattle.shared_disk.specs.Step.{IsDiskRefusal}
 use Rattle.lease_area.specs.Hold.{IsGivingRefusal}
 use Rattle.pool_model.specs.Covered.{Keeps}
+use Rattle.pool_model.specs.Laws.{tasks_without}
 use Rattle.pool_model.specs.Lines.{Counted}
 use Rattle.pool_model.specs.Owned.{OwnedChange, OwnedPool}
 use Rattle.pool_model.specs.Pool.{Pool}
@@ -15,7 +19,7 @@ use Rattle.pool_model.specs.Standing.{Stands}
 use Rattle.pool_model.specs.State.{Kept}
 use Rattle.pool_model.specs.Turns.{Answer, HostTurns, done, more, refused}
 use Rattle.host_core.specs.Knows.{HostKnows}
-use Rattle.host_core.specs.Memory.{Memory}
+use Rattle.host_core.specs.Memory.{Leader, Memory}
 use Rattle.host_core.specs.State.{state_of, verb_of}
 use Rattle.host_core.specs.declared.progress.Progress.{Progress}
 use Rattle.host_core.specs.declared.progress.Progress.TheVariants.{More, Done}
@@ -52,17 +56,31 @@ pub record ProgressCounts (faults faults' calls calls' : ℕ) (answer : Answer) 
 abbrev pub MayRefuse : Option Work → Refusal → Type 0
 MayRefuse None e = ⊥
 MayRefuse (Some work.Stop) e = IsGivingRefusal e
+MayRefuse (Some (work.Clear t)) e = IsDiskRefusal e
 
 abbrev pub RefusesOnly : Option Work → Answer → Type 0
 RefusesOnly w (refused e) = MayRefuse w e
 RefusesOnly w _ = Unit {0}
 
+-- what is answered, by what the removal of the task's file answered
+abbrev pub clear_progress : Result (Unit {0}) Refusal → Progress
+clear_progress (Ok _) = Done (reply.Ok payload.ClearTask)
+clear_progress (Err e) = Done (reply.Refused e)
+
+-- what a manager keeps once it was answered about the task's file: without the task, or in doubt of it
+abbrev pub cleared : Id → Progress → Leader → Leader
+cleared t More l = l
+cleared t (Done (reply.Ok payload)) l = record l { tasks = tasks_without t l.tasks }
+cleared t (Done (reply.Refused e)) l = record l { begun = Some t }
+
 -- What a step leaves in the host's memory, whatever the disk holds. A host that gives its role back isn't the manager
--- afterwards, whatever was answered.
+-- afterwards, whatever was answered. One that clears a task doesn't have it in its list any more, or is in doubt of it.
 abbrev pub Leaves : Option Work → Memory → Progress → Memory → Type 0
 Leaves None x r y = ⊥
 Leaves (Some work.Stop) x More y = ⊥
 Leaves (Some work.Stop) x (Done r) y = y ≡ record x { leading = None; work = None }
+Leaves (Some (work.Clear t)) x More y = ⊥
+Leaves (Some (work.Clear t)) x (Done r) y = y ≡ record x { leading = option_map (cleared t (Done r)) x.leading; work = None }
 
 -- ---- on a disk that stands for a pool
 

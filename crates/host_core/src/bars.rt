@@ -1,21 +1,26 @@
 // What is decided before a verb begins, without a call of the disk.
+ghost use Rattle.std.specs.Prelude.{IfNone};
 ghost use Rattle.sd_names.specs.UpSet.{Hosts};
 ghost use Rattle.pool_model.specs.Bars.{alone, bars_of, leading, none_begun, not_leading};
 ghost use Rattle.pool_model.specs.Pool.{Pool};
 ghost use Rattle.pool_model.specs.State.{Kept};
-ghost use Rattle.pool_model.specs.Verb.{verb_said};
-ghost use Rattle.host_core.specs.Bars.{AreBarred, IsBarred, IsDecided};
+ghost use Rattle.pool_model.specs.Verb.{clear_task, verb_said};
+ghost use Rattle.host_core.specs.Bars.{AreBarred, BarsAsk, IsBarred, IsDecided, IsReady};
+ghost use Rattle.host_core.specs.Knows.{HostKnows};
+ghost use Rattle.host_core.specs.Memory.{IsClearing};
 ghost use Rattle.host_core.specs.State.{state_of};
 
 use crate::Host;
-use sd_names::{Refusal, UpSet, Verb};
+use sd_names::{Id, Refusal, UpSet, Verb};
 
 impl Host {
-    /// Why a verb of the pool or of the role doesn't begin: the refusal of the first check that gives one, in the order of
-    /// 25; 41; 40, 101. It makes no call and changes nothing.
+    /// Why a verb of the pool, of the role or of tasks doesn't begin: the refusal of the first check that gives one, in the
+    /// order of 25; 41; 40, 101, 100. It makes no call and changes nothing. That a task is there is asked of the manager's
+    /// list, which has to be the pool's.
     pub fn barred(&self, up: &UpSet, verb: &Verb<'_>) -> Option<Refusal>
         requires decided { IsDecided verb.now }
-        ensures { (k : Kept) (p : Pool) → AreBarred self.now.id up.now (state_of k self.now) (bars_of (verb_said verb.now)) p result }
+        ensures barred { (k : Kept) (p : Pool) → BarsAsk verb.now k self.now p → AreBarred self.now.id up.now (state_of k self.now) (bars_of (verb_said verb.now)) p result }
+        ensures ready { IfNone result (IsReady verb.now self.now.leading) }
     {
         match verb {
             Verb::MakePool { .. } => self.beside_others(up),
@@ -24,7 +29,28 @@ impl Host {
                 Some(refusal) => Some(refusal),
                 None => self.with_open_task(),
             },
+            Verb::ClearTask { task } => self.without_task(task),
             _ => self.not_leading(),
+        }
+    }
+
+    // 40, 101 and 100, for a verb that clears a task.
+    fn without_task(&self, task: &Id) -> Option<Refusal>
+        ensures barred { (k : Kept) (p : Pool) (up : Hosts) → HostKnows k self.now p → AreBarred self.now.id up (state_of k self.now) (bars_of (clear_task task.now)) p result }
+        ensures ready { IfNone result (IsClearing task.now self.now.leading) }
+    {
+        match &self.leading {
+            Some(leading) => match leading.begun {
+                Some(begun) => Some(Refusal::TaskOpen(begun)),
+                None => {
+                    if leading.spm.tasks.has(task) {
+                        None
+                    } else {
+                        Some(Refusal::NoTask)
+                    }
+                }
+            },
+            None => Some(Refusal::NotSpm),
         }
     }
 

@@ -6,7 +6,7 @@ ghost use Rattle.pool_model.specs.Pool.{Pool};
 ghost use Rattle.pool_model.specs.State.{Kept};
 ghost use Rattle.pool_model.specs.Verb.{verb_said};
 ghost use Rattle.host_core.specs.Knows.{HostKnows};
-ghost use Rattle.host_core.specs.State.{IsHosted, state_of};
+ghost use Rattle.host_core.specs.State.{IsHosted, state_of, verb_of};
 
 use crate::{Host, Work};
 use sd_names::{Refusal, UpSet, Verb};
@@ -26,9 +26,20 @@ impl Host {
             None => {
                 self.bytes.clear();
                 self.steps = 0;
-                self.work = Some(Work::Stop);
+                self.work = Some(work_of(verb));
                 Ok(())
             }
         }
+    }
+}
+
+// The work of a verb that hosts have.
+fn work_of(verb: &Verb<'_>) -> Work
+    requires hosted { IsHosted verb.now }
+    ensures { verb_of result ≡ verb_said verb.now }
+{
+    match verb {
+        Verb::ClearTask { task } => Work::Clear(*task),
+        _ => Work::Stop,
     }
 }

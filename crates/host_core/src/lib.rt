@@ -3,6 +3,7 @@
 
 mod bars;
 mod begin;
+mod clear;
 mod down;
 mod host;
 pub mod laws;

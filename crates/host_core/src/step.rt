@@ -25,6 +25,7 @@ impl Host {
     {
         match self.work {
             Some(Work::Stop) => self.stop(disk),
+            Some(Work::Clear(task)) => self.clear(task, disk),
             None => Progress::More,
         }
     }

@@ -19,6 +19,8 @@ const START: Verb<'static> = Verb::SpmStart {
     lver: 0,
 };
 
+const CLEAR: Verb<'static> = Verb::ClearTask { task: POOL };
+
 // Whether this is a refusal with this text.
 fn says(refusal: Option<Refusal>, text: &[u8]) -> bool {
     match refusal {
@@ -35,6 +37,7 @@ fn is_new(host: &Host, alone: &UpSet, beside: &UpSet) -> bool {
         && says(host.barred(alone, &Verb::SpmStop), b"40 NotSpm")
         && says(host.barred(alone, &Verb::Tasks), b"40 NotSpm")
         && says(host.barred(alone, &Verb::Recover), b"40 NotSpm")
+        && says(host.barred(alone, &CLEAR), b"40 NotSpm")
         && host.read_bytes().is_empty()
 }
 
@@ -53,10 +56,12 @@ fn a_new_host_leads_nothing(rt: HostRuntime) -> Result<(), Fail> {
     };
     let new = is_new(&host, &alone, &beside);
     let stop = host.begin(&alone, &Verb::SpmStop);
+    let clear = host.begin(&alone, &CLEAR);
     let same = is_new(&host, &alone, &beside);
     host.down(&mut disk);
     assert!(rt; new && same);
     assert!(rt; says(stop.err(), b"40 NotSpm"));
+    assert!(rt; says(clear.err(), b"40 NotSpm"));
     Ok(())
 }
 
