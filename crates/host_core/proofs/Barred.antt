@@ -44,6 +44,7 @@ last_bar h up x b p (Some e) is = inl is
 pub hosted_decided : (v : Said) → IsHosted v → IsDecided v
 hosted_decided said.SpmStop is = tt
 hosted_decided (said.ClearTask t) is = tt
+hosted_decided said.Tasks is = tt
 hosted_decided _ is = absurd is
 
 -- ---- whether a task is there, by the manager's list

@@ -77,16 +77,24 @@ clear_refused h up moment x p t e (inr (free, inr (rests, inl (none, is)))) =
     subst (λ (r : Refusal). Begins h up moment (verb.clear_task t) x p (Err r) x) (sym is) (tt, inr (free, inr (rests, inl (none, refl))), refl)
 clear_refused h up moment x p t e (inr (free, inr (rests, inr none))) = absurd none.1
 
+tasks_refused : (h : ℕ) (up : Hosts) (moment : ℕ) (x : HostState) (p : Pool) (e : Refusal) → FirstBar h up x (bars_of verb.tasks) e p
+    → Begins h up moment verb.tasks x p (Err e) x
+tasks_refused h up moment x p e (inl (role, is)) =
+    subst (λ (r : Refusal). Begins h up moment verb.tasks x p (Err r) x) (sym is) (tt, inl (role, refl), refl)
+tasks_refused h up moment x p e (inr (free, none)) = absurd none
+
 pub begin_refused : (h : ℕ) (up : Hosts) (moment : ℕ) (x : HostState) (p : Pool) (v : Said) (e : Refusal) → IsHosted v
     → FirstBar h up x (bars_of (verb_said v)) e p → Begins h up moment (verb_said v) x p (Err e) x
 begin_refused h up moment x p said.SpmStop e hosted first = stop_refused h up moment x p e first
 begin_refused h up moment x p (said.ClearTask t) e hosted first = clear_refused h up moment x p t e first
+begin_refused h up moment x p said.Tasks e hosted first = tasks_refused h up moment x p e first
 begin_refused h up moment x p _ e hosted first = absurd hosted
 
 -- what the checks ask of the pool, a host knows
 pub asked : (v : Said) (k : Kept) (x : Memory) (p : Pool) → IsHosted v → HostKnows k x p → BarsAsk v k x p
 asked said.SpmStop k x p hosted knows = tt
 asked (said.ClearTask t) k x p hosted knows = knows
+asked said.Tasks k x p hosted knows = tt
 asked _ k x p hosted knows = absurd hosted
 
 -- ---- the verb runs
@@ -106,22 +114,43 @@ fit_of (said.ClearTask t) work.Stop o hosted same ready = absurd (apart same)
   where
     apart : verb.spm_stop ≡ verb.clear_task t → ⊥
     apart e = cc
+fit_of said.SpmStop work.Tasks o hosted same ready = absurd (apart same)
+  where
+    apart : verb.tasks ≡ verb.spm_stop → ⊥
+    apart e = cc
+fit_of (said.ClearTask t) work.Tasks o hosted same ready = absurd (apart same)
+  where
+    apart : verb.tasks ≡ verb.clear_task t → ⊥
+    apart e = cc
+fit_of said.Tasks work.Tasks o hosted same ready = ready
+fit_of said.Tasks work.Stop o hosted same ready = absurd (apart same)
+  where
+    apart : verb.spm_stop ≡ verb.tasks → ⊥
+    apart e = cc
+fit_of said.Tasks (work.Clear t) o hosted same ready = absurd (apart same)
+  where
+    apart : verb.clear_task t ≡ verb.tasks → ⊥
+    apart e = cc
 fit_of _ w o hosted same ready = absurd hosted
 
 have_marks : (moment : ℕ) (w : Work) (o : Option Leader) → IsFit (Some w) o → HasMarks moment (role_by o) (verb_of w) (marks_of w o)
 have_marks moment work.Stop None fit = absurd fit
 have_marks moment work.Stop (Some l) fit = refl
 have_marks moment (work.Clear t) o fit = refl
+have_marks moment work.Tasks o fit = refl
 
 role_kept : (w : Work) (o : Option Leader) → role_by o ≡ role_begun (verb_of w) (role_by o)
 role_kept work.Stop None = refl
 role_kept work.Stop (Some l) = refl
 role_kept (work.Clear t) None = refl
 role_kept (work.Clear t) (Some l) = refl
+role_kept work.Tasks None = refl
+role_kept work.Tasks (Some l) = refl
 
 within_most : (h : ℕ) (w : Work) (k : Kept) (p : Pool) → WithinMost h (verb_of w) k p 0
 within_most h work.Stop k p = omega arith
 within_most h (work.Clear t) k p = omega arith
+within_most h work.Tasks k p = omega arith
 
 module _ (id moment steps : ℕ) (bytes room : List ℕ) (before : Option Work) (w : Work) (k : Kept) (p : Pool) (keeps : IsKept id p k) where
   abbrev was : Option Leader → Memory
@@ -164,4 +193,5 @@ module _ (id moment steps : ℕ) (bytes room : List ℕ) (before : Option Work) 
 pub hosted_built : (v : Said) → IsHosted v → IsBuilt (verb_said v)
 hosted_built said.SpmStop hosted = tt
 hosted_built (said.ClearTask t) hosted = tt
+hosted_built said.Tasks hosted = tt
 hosted_built _ hosted = absurd hosted

@@ -15,7 +15,7 @@ use Rattle.pool_model.specs.Downs.{DownPool}
 use Rattle.pool_model.specs.Laws.{IsQuiet, MakesNone}
 use Rattle.pool_model.specs.Knows.{KnowsRole}
 use Rattle.pool_model.specs.Leases.{IsGuest}
-use Rattle.pool_model.specs.Marks.{change, clear, make_master}
+use Rattle.pool_model.specs.Marks.{Mark, change, clear, make_master}
 use Rattle.pool_model.specs.Owned.{OwnedPool}
 use Rattle.pool_model.specs.Pool.{Box, Image, Pool, Side, Torn, Writing, inbox, outbox}
 use Rattle.pool_model.specs.Standing.{DomainStands, Stands}
@@ -68,11 +68,16 @@ makes_none k x (Some (work.Clear t)) = none
   where
     none : (r : DomainRecord) → change (clear t) ∷ [] ≡ change (make_master r) ∷ [] → ⊥
     none r e = cc
+makes_none k x (Some work.Tasks) = none
+  where
+    none : (r : DomainRecord) → ◌≡◌ {A = List Mark} [] (change (make_master r) ∷ []) → ⊥
+    none r e = cc
 
 steps_stay : (k : Kept) (x : Memory) (p q : Pool) (w : Option Work) → KnowsSteps x.id (running_by k x w) p → KnowsSteps x.id (running_by k x w) q
 steps_stay k x p q None knows = tt
 steps_stay k x p q (Some work.Stop) knows = knows
 steps_stay k x p q (Some (work.Clear t)) knows = knows
+steps_stay k x p q (Some work.Tasks) knows = knows
 
 -- what is left of a box's writings was there
 filtered_by : (h : ℕ) (w v : Writing) (ws : List Writing) (b : Bool) → (Contains (filter (λ u. not (u.host == h)) ws) w → Contains ws w)

@@ -8,7 +8,7 @@ use Rattle.pool_model.specs.Bars.{Bar, Bars, FirstBar, NoBar}
 use Rattle.pool_model.specs.Pool.{Pool}
 use Rattle.pool_model.specs.State.{HostState, Kept}
 use Rattle.host_core.specs.Knows.{HostKnows}
-use Rattle.host_core.specs.Memory.{IsClearing, IsStopping, Leader, Memory}
+use Rattle.host_core.specs.Memory.{IsClearing, IsLeading, IsStopping, Leader, Memory}
 
 -- one check: its refusal, or that it gives none
 abbrev pub IsBarred : ℕ → Hosts → HostState → Bar → Pool → Option Refusal → Type 0
@@ -40,4 +40,5 @@ BarsAsk _ k x p = Unit {0}
 abbrev pub IsReady : Said → Option Leader → Type 0
 IsReady said.SpmStop leading = IsStopping leading
 IsReady (said.ClearTask t) leading = IsClearing t leading
+IsReady said.Tasks leading = IsLeading leading
 IsReady _ leading = Unit {0}

@@ -1,4 +1,5 @@
 pub mod Memory
+pub mod Listed
 pub mod State
 pub mod Knows
 pub mod Bars

@@ -63,10 +63,16 @@ abbrev pub IsClearing : Id → Option Leader → Type 0
 IsClearing t None = ⊥
 IsClearing t (Some l) = (l.begun ≡ None) × (list_any (λ (a : Listed). id_is a.0 t) l.tasks ≡ true)
 
+-- whoever lists tasks is the manager
+abbrev pub IsLeading : Option Leader → Type 0
+IsLeading None = ⊥
+IsLeading (Some l) = Unit {0}
+
 abbrev pub IsFit : Option Work → Option Leader → Type 0
 IsFit None leading = Unit {0}
 IsFit (Some work.Stop) leading = IsStopping leading
 IsFit (Some (work.Clear t)) leading = IsClearing t leading
+IsFit (Some work.Tasks) leading = IsLeading leading
 
 pub record IsSound (id : ℕ) (leading : Option Leader) (work : Option Work) : Type 0 where
   pub own : IsOwn id leading

@@ -19,6 +19,7 @@ role_by (Some l) = leads (record { master = l.master; version = l.lease.version;
 abbrev pub verb_of : Work → Verb
 verb_of work.Stop = verb.spm_stop
 verb_of (work.Clear t) = verb.clear_task t
+verb_of work.Tasks = verb.tasks
 
 abbrev pub stop_marks : Option Leader → List Mark
 stop_marks None = []
@@ -27,6 +28,7 @@ stop_marks (Some l) = check (still_leads l.master l.lease.version) ∷ change (y
 abbrev pub marks_of : Work → Option Leader → List Mark
 marks_of work.Stop leading = stop_marks leading
 marks_of (work.Clear t) leading = change (clear t) ∷ []
+marks_of work.Tasks leading = []
 
 abbrev pub running_by : Kept → Memory → Option Work → Option Running
 running_by k x None = None
@@ -41,4 +43,5 @@ state_of k x = record { role = role_by x.leading; opened = λ s. None; running =
 abbrev pub IsHosted : Said → Type 0
 IsHosted said.SpmStop = Unit {0}
 IsHosted (said.ClearTask t) = Unit {0}
+IsHosted said.Tasks = Unit {0}
 IsHosted _ = ⊥

@@ -1,6 +1,6 @@
 -- One step of a host: what it answers, and what it leaves.
 -- Claim: on every disk that stands for a pool of which the host's memory speaks truly, a step is a turn of the pool's machine.
-use Rattle.std.specs.Prelude.{◌≡◌, ℕ, ◌+◌, ◌≤◌, List, [], Option, Some, None, Result, Ok, Err}
+use Rattle.std.specs.Prelude.{◌≡◌, ℕ, ◌+◌, ◌-◌, ◌^◌, ◌≤◌, min, List, [], Option, Some, None, Result, Ok, Err}
 use Rattle.std.specs.Option.{option_map}
 use Rattle.sd_names.specs.UpSet.{Hosts}
 use Rattle.sd_names.specs.declared.id.Id.{Id}
@@ -10,6 +10,7 @@ use Rattle.sd_names.specs.declared.verb.Payload.TheVariants as payload
 use Rattle.shared_disk.specs.Content.{Content}
 use Rattle.shared_disk.specs.Step.{IsDiskRefusal}
 use Rattle.lease_area.specs.Hold.{IsGivingRefusal}
+use Rattle.task_files.specs.Read.{IsReadRefusal}
 use Rattle.pool_model.specs.Covered.{Keeps}
 use Rattle.pool_model.specs.Laws.{tasks_without}
 use Rattle.pool_model.specs.Lines.{Counted}
@@ -52,11 +53,26 @@ pub record ProgressCounts (faults faults' calls calls' : ℕ) (answer : Answer) 
   pub no_less : faults ≤ faults'
   pub cause : Counted answer faults faults'
 
+-- whether a list of the tasks needs the file of one
+abbrev pub Reads : Option Id → ℕ → ℕ → Type 0
+Reads None calls calls' = calls' ≡ calls
+Reads (Some t) calls calls' = calls' ≡ min (calls + 1) (2 ^ 64 - 1)
+
+abbrev pub ReadsBy : Option Leader → ℕ → ℕ → Type 0
+ReadsBy None calls calls' = ⊥
+ReadsBy (Some l) calls calls' = Reads l.begun calls calls'
+
+-- how many calls a step makes: one, but that the tasks of a manager without a task in doubt are listed without one
+abbrev pub CallsMade : Option Work → Option Leader → ℕ → ℕ → Type 0
+CallsMade (Some work.Tasks) leading calls calls' = ReadsBy leading calls calls'
+CallsMade _ leading calls calls' = calls' ≡ min (calls + 1) (2 ^ 64 - 1)
+
 -- which refusals a step of a verb may give
 abbrev pub MayRefuse : Option Work → Refusal → Type 0
 MayRefuse None e = ⊥
 MayRefuse (Some work.Stop) e = IsGivingRefusal e
 MayRefuse (Some (work.Clear t)) e = IsDiskRefusal e
+MayRefuse (Some work.Tasks) e = (t : Id) × IsReadRefusal t e
 
 abbrev pub RefusesOnly : Option Work → Answer → Type 0
 RefusesOnly w (refused e) = MayRefuse w e
@@ -81,6 +97,8 @@ Leaves (Some work.Stop) x More y = ⊥
 Leaves (Some work.Stop) x (Done r) y = y ≡ record x { leading = None; work = None }
 Leaves (Some (work.Clear t)) x More y = ⊥
 Leaves (Some (work.Clear t)) x (Done r) y = y ≡ record x { leading = option_map (cleared t (Done r)) x.leading; work = None }
+Leaves (Some work.Tasks) x More y = ⊥
+Leaves (Some work.Tasks) x (Done r) y = y ≡ record x { work = None }
 
 -- ---- on a disk that stands for a pool
 

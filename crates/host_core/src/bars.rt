@@ -7,7 +7,7 @@ ghost use Rattle.pool_model.specs.State.{Kept};
 ghost use Rattle.pool_model.specs.Verb.{clear_task, verb_said};
 ghost use Rattle.host_core.specs.Bars.{AreBarred, BarsAsk, IsBarred, IsDecided, IsReady};
 ghost use Rattle.host_core.specs.Knows.{HostKnows};
-ghost use Rattle.host_core.specs.Memory.{IsClearing};
+ghost use Rattle.host_core.specs.Memory.{IsClearing, IsLeading};
 ghost use Rattle.host_core.specs.State.{state_of};
 
 use crate::Host;
@@ -30,6 +30,7 @@ impl Host {
                 None => self.with_open_task(),
             },
             Verb::ClearTask { task } => self.without_task(task),
+            Verb::Tasks => self.not_leading(),
             _ => self.not_leading(),
         }
     }
@@ -76,7 +77,8 @@ impl Host {
 
     // 40 where this host isn't the manager.
     fn not_leading(&self) -> Option<Refusal>
-        ensures { (k : Kept) (p : Pool) (up : Hosts) → IsBarred self.now.id up (state_of k self.now) leading p result }
+        ensures barred { (k : Kept) (p : Pool) (up : Hosts) → IsBarred self.now.id up (state_of k self.now) leading p result }
+        ensures ready { IfNone result (IsLeading self.now.leading) }
     {
         match &self.leading {
             Some(_) => None,

@@ -40,6 +40,7 @@ fn work_of(verb: &Verb<'_>) -> Work
 {
     match verb {
         Verb::ClearTask { task } => Work::Clear(*task),
+        Verb::Tasks => Work::Tasks,
         _ => Work::Stop,
     }
 }

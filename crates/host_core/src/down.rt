@@ -18,6 +18,7 @@ impl Host {
         ensures content { Told (D.content disk.old) (D.content disk.new) (GoesDown self) }
     {
         let Host {
+            alloc: _,
             id,
             moment: _,
             leading,

@@ -14,6 +14,7 @@ const ROOM: usize = 65_536;
 /// A host that is up. A contract sees its memory. It can't be dropped, since it may hold the role of the manager.
 #[derive(Debug)]
 pub struct Host {
+    pub(crate) alloc: Global,
     pub(crate) id: HostId,
     pub(crate) moment: u64,
     pub(crate) leading: Option<Leading>,
@@ -41,6 +42,7 @@ impl Host {
     {
         match Vec::with_capacity(alloc, ROOM) {
             Ok(bytes) => Ok(Host {
+                alloc,
                 id,
                 moment,
                 leading: None,

@@ -10,6 +10,7 @@ pub mod laws;
 mod leading;
 mod progress;
 mod step;
+mod tasks;
 mod work;
 
 pub use host::Host;

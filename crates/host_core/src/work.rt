@@ -8,4 +8,6 @@ pub enum Work {
     Stop,
     /// `clear-task`: the file of this task is to be removed.
     Clear(Id),
+    /// `tasks`: the tasks are to be listed.
+    Tasks,
 }

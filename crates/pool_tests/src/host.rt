@@ -57,11 +57,13 @@ fn a_new_host_leads_nothing(rt: HostRuntime) -> Result<(), Fail> {
     let new = is_new(&host, &alone, &beside);
     let stop = host.begin(&alone, &Verb::SpmStop);
     let clear = host.begin(&alone, &CLEAR);
+    let list = host.begin(&alone, &Verb::Tasks);
     let same = is_new(&host, &alone, &beside);
     host.down(&mut disk);
     assert!(rt; new && same);
     assert!(rt; says(stop.err(), b"40 NotSpm"));
     assert!(rt; says(clear.err(), b"40 NotSpm"));
+    assert!(rt; says(list.err(), b"40 NotSpm"));
     Ok(())
 }
 
