@@ -7,3 +7,4 @@ mod StageFalls
 mod Texts
 mod NewText
 mod Others
+mod Unsynced

@@ -6,16 +6,18 @@ ghost use Rattle.sd_names.specs.declared.id.Id.{Id};
 ghost use Rattle.sd_names.specs.declared.place.Dir.{Dir};
 ghost use Rattle.sd_names.specs.declared.place.Place.{Place};
 ghost use Rattle.shared_disk.specs.Content.{Content};
-ghost use Rattle.shared_disk.specs.Crash.{IsOutcome};
+ghost use Rattle.shared_disk.specs.Crash.{DownLeaves, IsOutcome};
 ghost use Rattle.domain_meta.specs.Read.{read_domain};
 ghost use Rattle.domain_meta.specs.Text.{domain_text};
 ghost use Rattle.lease_area.specs.Hold.{Stands};
 ghost use Rattle.pool_making.specs.Layout.{IsOwn, metadata_of};
-ghost use Rattle.pool_making.specs.Making.{domain_of};
+ghost use Rattle.pool_making.specs.Making.{domain_of, stage_of};
 ghost use Rattle.pool_making.specs.Pool.{IsDomain, IsNoneOrWhole, IsNoneOrWholeOnEach};
-ghost use Rattle.pool_making.specs.Steps.{Knows};
+ghost use Rattle.pool_making.specs.Steps.{CallOf, Knows};
 ghost use Rattle.pool_making.specs.Writing.{only_master};
 ghost use Rattle.pool_making.specs.declared.making.MakePool.{MakePool};
+ghost use Rattle.sd_names.specs.declared.turn.Turn.{Turn};
+ghost use Rattle.unsynced_laws.specs.Unsynced.{IsSettledAt, LeavesOnlyOf};
 
 /// A domain that was made whole is whole on each outcome, and one that doesn't count counts on none.
 pub fn a_made_domain_survives_crashes()
@@ -37,4 +39,16 @@ pub fn a_new_domain_has_no_leases()
 /// domain's own files alone.
 pub fn make_knowledge_survives_others()
     ensures { (m : MakePool) (host : ℕ) (d e : Content) → ((q : Dir) → e.dir q ≡ d.dir q) → ((q : Id) → e.file (metadata_of q) ≡ d.file (metadata_of q)) → ((q : Place) → IsOwn (domain_of m) q → e.file q ≡ d.file q) → Knows m host d → Knows m host e }
+{}
+
+/// Behind each step of a making, done, failed or refused, and whatever stands in the folder, whoever has something unsynced
+/// had something before, or is the host that makes the pool.
+pub fn makings_leave_only_theirs()
+    ensures { (m : MakePool) (host faults : ℕ) (turn : Turn MakePool (Unit {0}) (Unit {0})) (d e : Content) → CallOf (stage_of m) m host faults turn d e → LeavesOnlyOf host d e }
+{}
+
+/// What a making knows stays true where another host goes down that has nothing unsynced in the texts of domains and in the new
+/// domain's own files.
+pub fn make_knowledge_survives_crashes()
+    ensures { (m : MakePool) (host other : ℕ) (d e : Content) → DownLeaves d other e → ((q : Id) → IsSettledAt other (d.file (metadata_of q))) → ((q : Place) → IsOwn (domain_of m) q → IsSettledAt other (d.file q)) → Knows m host d → Knows m host e }
 {}
