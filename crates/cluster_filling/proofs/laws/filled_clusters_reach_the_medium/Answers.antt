@@ -1,4 +1,4 @@
-use Rattle.cluster_filling.proofs.Medium.{beside_seen, file_seen, outcome_has, synced_has}
+use Rattle.cluster_filling.proofs.Medium.{beside_seen, file_seen, outcome_has, sector_there, synced_has}
 use Rattle.cluster_filling.proofs.laws.filled_clusters_reach_the_medium.Goals as goal
 
 pub returns-clause-seen : goal.returns-clause-seen
@@ -12,3 +12,6 @@ returns-clause-synced g k c x part host f sees = synced_has k c x part host f se
 
 pub returns-clause-each : goal.returns-clause-each
 returns-clause-each g k c x part f settled has = outcome_has k c x part f settled has
+
+pub returns-clause-there : goal.returns-clause-there
+returns-clause-there g new k c x part f n is place first whole at has = sector_there new k c x part f n is place first whole at has
