@@ -1,5 +1,6 @@
 pub mod Spm
 pub mod Master
+pub mod List
 pub mod Look
 pub mod Asked
 pub mod Start

@@ -2,6 +2,7 @@
 #![tactic(auto)]
 
 pub mod laws;
+mod listing;
 mod lists;
 mod looking;
 mod master;
