@@ -1,6 +1,7 @@
 mod Apart
 mod Parts
 mod Listed
+mod Passed
 mod Turns
 mod StageSteps
 mod StageFalls

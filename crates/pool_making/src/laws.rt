@@ -1,5 +1,5 @@
 // Laws of making a pool: contracts of functions that do nothing.
-ghost use Rattle.std.specs.Prelude.{◌≡◌, ℕ, ◌<◌, ◌≤◌, ◌^◌, List, length, replicate, Ok};
+ghost use Rattle.std.specs.Prelude.{◌≡◌, Bool, Option, ℕ, ◌<◌, ◌≤◌, ◌^◌, List, length, replicate, Ok};
 ghost use Rattle.kv_text.specs.Text.{IsOneLine};
 ghost use Rattle.sd_names.specs.Id.{IsIdBytes};
 ghost use Rattle.sd_names.specs.declared.id.Id.{Id};
@@ -11,11 +11,15 @@ ghost use Rattle.domain_meta.specs.Read.{read_domain};
 ghost use Rattle.domain_meta.specs.Text.{domain_text};
 ghost use Rattle.lease_area.specs.Hold.{Stands};
 ghost use Rattle.pool_making.specs.Layout.{IsOwn, metadata_of};
+ghost use Rattle.pool_making.specs.Listing.{AreStillThere, HadNone, IsFirstFound};
 ghost use Rattle.pool_making.specs.Making.{domain_of, stage_of};
 ghost use Rattle.pool_making.specs.Pool.{IsDomain, IsNoneOrWhole, IsNoneOrWholeOnEach};
 ghost use Rattle.pool_making.specs.Steps.{CallOf, Knows};
 ghost use Rattle.pool_making.specs.Writing.{only_master};
 ghost use Rattle.pool_making.specs.declared.making.MakePool.{MakePool};
+ghost use Rattle.pool_making.specs.declared.making.Stage.TheVariants.{Checking, Listing};
+ghost use Rattle.sd_names.specs.Turn.{MatchTurn};
+ghost use Rattle.shared_disk.specs.WellFormed.{IsWellFormed};
 ghost use Rattle.sd_names.specs.declared.turn.Turn.{Turn};
 ghost use Rattle.unsynced_laws.specs.Unsynced.{IsSettledAt, LeavesOnlyOf};
 
@@ -51,4 +55,11 @@ pub fn makings_leave_only_theirs()
 /// domain's own files.
 pub fn make_knowledge_survives_crashes()
     ensures { (m : MakePool) (host other : ℕ) (d e : Content) → DownLeaves d other e → ((q : Id) → IsSettledAt other (d.file (metadata_of q))) → ((q : Place) → IsOwn (domain_of m) q → IsSettledAt other (d.file q)) → Knows m host d → Knows m host e }
+{}
+
+/// Where each text that was there at an earlier moment still is, a listing passes no domain that had one then: 31 names a
+/// domain that has a text, below which none had one, whatever others have made since.
+pub fn listings_find_the_first_text()
+    ensures listed { (m : MakePool) (host faults : ℕ) (turn : Turn MakePool (Unit {0}) (Unit {0})) (after : Option Dir) (had : Id → Bool) (d e : Content) → IsWellFormed d → AreStillThere had d → HadNone had (Listing after) → CallOf (Listing after) m host faults turn d e → MatchTurn turn (λ next. HadNone had (stage_of next)) (λ _. Unit {0}) (λ _ refusal. IsFirstFound refusal had d) }
+    ensures checked { (m : MakePool) (host faults : ℕ) (turn : Turn MakePool (Unit {0}) (Unit {0})) (q : Id) (had : Id → Bool) (d e : Content) → IsWellFormed d → AreStillThere had d → IsIdBytes q.0 → HadNone had (Checking q) → CallOf (Checking q) m host faults turn d e → MatchTurn turn (λ next. HadNone had (stage_of next)) (λ _. Unit {0}) (λ _ refusal. IsFirstFound refusal had d) }
 {}
