@@ -1,9 +1,12 @@
 // A host: what is refused before a verb begins, and its going down.
+ghost use Rattle.host_core.specs.State.{IsHosted};
+
 use crate::shared::{LEASES, POOL, SD};
 use host_core::Host;
 use memory_disk::{Memory, Pick};
 use sd_names::{HostId, Refusal, UpSet, Verb};
 use shared_disk::SharedDisk;
+use std::alloc::Global;
 use std::test::Fail;
 
 const MAKE: Verb<'static> = Verb::MakePool {
@@ -56,14 +59,35 @@ fn a_new_host_leads_nothing(rt: HostRuntime) -> Result<(), Fail> {
     };
     let new = is_new(&host, &alone, &beside);
     let stop = host.begin(&alone, &Verb::SpmStop);
-    let clear = host.begin(&alone, &CLEAR);
-    let list = host.begin(&alone, &Verb::Tasks);
     let same = is_new(&host, &alone, &beside);
     host.down(&mut disk);
     assert!(rt; new && same);
     assert!(rt; says(stop.err(), b"40 NotSpm"));
-    assert!(rt; says(clear.err(), b"40 NotSpm"));
-    assert!(rt; says(list.err(), b"40 NotSpm"));
+    Ok(())
+}
+
+// Whether a new host is refused this verb, as one that isn't the manager, and goes down.
+fn begins_nothing(alloc: Global, disk: &mut Memory, id: HostId, verb: &Verb<'_>) -> bool
+    requires hosted { IsHosted verb.now }
+{
+    let mut up = UpSet::new();
+    up.add(id);
+    match Host::boot(alloc, id, 0) {
+        Ok(mut host) => {
+            let begun = host.begin(&up, verb);
+            host.down(disk);
+            says(begun.err(), b"40 NotSpm")
+        }
+        Err(_) => false,
+    }
+}
+
+#[test]
+fn a_new_host_asks_for_no_tasks(rt: HostRuntime) -> Result<(), Fail> {
+    let one = HostId::new(1).ok_or("1")?;
+    let mut disk = Memory::new(rt.alloc(), Vec::new(rt.alloc()), Vec::new(rt.alloc()), 100)?;
+    assert!(rt; begins_nothing(rt.alloc(), &mut disk, one, &Verb::Tasks));
+    assert!(rt; begins_nothing(rt.alloc(), &mut disk, one, &CLEAR));
     Ok(())
 }
 

@@ -147,6 +147,49 @@ const OF_VERSION_6: &[u8] =
 const CHANGED: &[u8] =
     b"CLASS=Data\nDESCRIPTION=x\nMASTER_VERSION=1\nPOOL_DOMAINS=00000000-0000-4000-8000-000000000002:Active\nPOOL_UUID=00000000-0000-4000-8000-000000000001\nROLE=Master\nSDUUID=00000000-0000-4000-8000-000000000002\nVERSION=5\n_SHA_CKSUM=46e88711d22d8318aa83f22d3394d6dbac8534bc\n";
 
+// The pool's text with another domain, of which nothing but the entry is there.
+const OF_TWO: &[u8] =
+    b"CLASS=Data\nDESCRIPTION=\nMASTER_VERSION=1\nPOOL_DOMAINS=00000000-0000-4000-8000-000000000002:Active,00000000-0000-4000-8000-000000000003:Active\nPOOL_UUID=00000000-0000-4000-8000-000000000001\nROLE=Master\nSDUUID=00000000-0000-4000-8000-000000000002\nVERSION=5\n_SHA_CKSUM=f1199c2643319156ddfcfd402e797b21e14fed52\n";
+
+const OTHER: Id = Id([0, 0, 0, 0, 0, 0, 0x40, 0, 0x80, 0, 0, 0, 0, 0, 0, 3]);
+
+// What a manager keeps of two lists that it reads, and of a text that is gone.
+fn lists_again(
+    alloc: Global,
+    disk: &mut Memory,
+    host: HostId,
+    spm: &mut Spm,
+) -> Result<bool, NoMemory> {
+    put_text(disk, OF_TWO)?;
+    let two = spm.read_list(alloc, host, disk).is_ok()
+        && spm.domains.as_slice() == [SD, OTHER].as_slice()
+        && spm.master() == SD;
+    let gone = disk.remove(host, METADATA).is_ok();
+    let refused = match spm.read_list(alloc, host, disk) {
+        Ok(()) => false,
+        Err(refusal) => refusal.text().as_bytes() == b"32 NoDomain".as_slice(),
+    };
+    let kept = spm.domains.as_slice() == [SD, OTHER].as_slice();
+    put_text(disk, TEXT)?;
+    let one = spm.read_list(alloc, host, disk).is_ok() && is_manager(spm, 1);
+    Ok(two && gone && refused && kept && one)
+}
+
+#[test]
+fn a_manager_reads_its_list_again(rt: HostRuntime) -> Result<(), Fail> {
+    let host = HostId::new(1).ok_or("1")?;
+    let mut up = UpSet::new();
+    up.add(host);
+    let mut disk = pool(rt.alloc(), host, 1_000_000)?;
+    let Ok(mut spm) = start(rt.alloc(), &mut disk, host, &up, 0, 0) else {
+        return Err("refused".into());
+    };
+    let listed = lists_again(rt.alloc(), &mut disk, host, &mut spm);
+    spm.lost();
+    assert!(rt; listed?);
+    Ok(())
+}
+
 #[test]
 fn each_text_is_refused_as_it_is(rt: HostRuntime) -> Result<(), Fail> {
     let host = HostId::new(1).ok_or("1")?;
