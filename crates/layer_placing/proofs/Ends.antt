@@ -1,5 +1,5 @@
 -- Steps that change nothing, and steps that the disk ended.
-use Rattle.std.proofs.Common.{◌≡◌, inl, inr, ℕ, ◌+◌, ◌≤◌, Bool, List, Option, None, Some, Err, refl, sym, ap, subst, arith}
+use Rattle.std.proofs.Common.{◌≡◌, inl, inr, ℕ, ◌+◌, ◌<◌, ◌≤◌, Bool, List, Option, None, Some, Err, refl, sym, ap, subst, arith}
 use Rattle.sd_names.specs.declared.place.Place.{Place}
 use Rattle.sd_names.specs.declared.refusal.Refusal.{Refusal}
 use Rattle.sd_names.specs.declared.refusal.Refusal.TheVariants.{DiskFault}
@@ -12,6 +12,7 @@ use Rattle.shared_disk.specs.declared.disk.DiskAnswer.TheVariants.{NoFile, Exist
 use Rattle.qcow_layer.specs.Seen.{IsReadRefusal}
 use Rattle.qcow_layer.specs.declared.layer.Layer.{Layer}
 use Rattle.qcow_layer.proofs.Pieces.{same_file}
+use Rattle.image_model.specs.Layer.{l1_entry}
 use Rattle.layer_laws.specs.Laws as laws
 use Rattle.layer_writing.specs.Holding.{ComesBy, HoldSame, IsSpare, as_seen}
 use Rattle.layer_writing.specs.Writer.{IsLeft, KnowsWriter}
@@ -29,8 +30,9 @@ writer_left l host f knows = facts_left l host f (facts_of l host f knows)
 -- spare places that stay so are named by nothing on any outcome of a file that the writer knows
 pub stay_known : (l m : Layer) (host : ℕ) (f now : File) → KnowsWriter m host now
     → ((place : ℕ) → IsSpare (laws.layer l.work.header (as_seen host f)) l.target.capacity place → IsSpare (laws.layer m.work.header (as_seen host now)) m.target.capacity place)
+    → ((i : ℕ) → i < l.work.header.l1_size → l1_entry (laws.layer m.work.header (as_seen host now)) i ≡ l1_entry (laws.layer l.work.header (as_seen host f)) i)
     → StaySpare l m host f now
-stay_known l m host f now knows spare = record { spare = spare; unnamed = λ place is. unnamed_on_each m host place now knows (spare place is).unnamed }
+stay_known l m host f now knows spare tables = record { spare = spare; unnamed = λ place is. unnamed_on_each m host place now knows (spare place is).unnamed; tables = tables }
 
 no_file : (f : File) (o : Option File) → o ≡ Some f → o ≡ None → ⊥
 no_file f o e e' = cc

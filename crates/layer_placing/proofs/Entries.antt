@@ -19,10 +19,10 @@ use Rattle.qcow_format.specs.declared.header.Header.{Header}
 use Rattle.qcow_format.proofs.Put.{length-bytes_of, length-put, number-put_before, number-put_behind, number-put_same}
 use Rattle.image_model.specs.File as image
 use Rattle.image_model.specs.File.{file_of, sector_in}
-use Rattle.image_model.specs.Layer.{Tables, block_at, block_place, block_word, count_of, entries, is_used, l1_clusters}
+use Rattle.image_model.specs.Layer.{Tables, block_at, block_place, block_word, count_of, entries, is_used, l1_clusters, l1_entry}
 use Rattle.image_model.specs.Soundness.{IsClean, IsSound, layer_header, names}
 use Rattle.layer_laws.specs.Laws as laws
-use Rattle.layer_laws.specs.Laws.{AreSectors, OnlyWord, Placed, SameOutside, block_position}
+use Rattle.layer_laws.specs.Laws.{AreSectors, OnlyWord, Placed, SameOutside, block_position, l1_position}
 use Rattle.layer_laws.proofs.Covers.{counts_kept, counts_new, covered}
 use Rattle.layer_laws.proofs.Heads.{parent_kept}
 use Rattle.layer_laws.proofs.Numbers.{behind, cluster_sectors, row_of, whole_sector}
@@ -45,6 +45,7 @@ use Rattle.layer_placing.specs.Stages.{block_place_of, current_of, entry_place_o
 use Rattle.layer_placing.specs.declared.stage.Stage.TheVariants.{Entered, Settled}
 use Rattle.layer_placing.specs.declared.stage.Work.{Work}
 use Rattle.layer_placing.proofs.Ends.{failed_write, writer_left}
+use Rattle.layer_placing.proofs.Firsts.{tables_by_names}
 use Rattle.layer_placing.proofs.Finds.{entry_at_is, entry_sector}
 use Rattle.layer_placing.proofs.Rows.{one_long, one_piece}
 use Rattle.layer_placing.proofs.Zeros.{first_begins, first_cluster, first_inside, first_range, first_unnamed, no_count}
@@ -346,6 +347,13 @@ module _ (l : Layer) (host : ℕ) (w : Work) (table bytes : List ℕ) (f : File)
           elsewhere (sym (ap (λ x. x / c / span) same) ∙ first_range l host f w table N lacks)
       go m name (inr ne) = spare.unnamed m (sym (placed.names_kept m ne) ∙ name)
 
+  -- no L1 entry is written
+  tables_stay : (i : ℕ) → i < h.l1_size → l1_entry U i ≡ l1_entry T i
+  tables_stay = tables_by_names h F G cap header_is sound_is placed.header placed.sound (λ i lt. placed.names_kept (l1_position T i) (behind_blocks i))
+    where
+      behind_blocks : (i : ℕ) → l1_position T i ≢ block_position T k
+      behind_blocks i e = omega (arith, e, low)
+
   -- ---- the file after the write
 
   one : sectors_in bytes ≡ 1
@@ -412,6 +420,7 @@ module _ (l : Layer) (host : ℕ) (w : Work) (table bytes : List ℕ) (f : File)
   stays = record {
     spare = λ place is. subst (λ (x : image.File). IsSpare (laws.layer l.work.header x) cap place) (sym sees_now) (spare_still place is);
     unnamed = λ place is g out. on_either place is g (either (λ _. true) g out);
+    tables = λ i lt. ap (λ (x : image.File). l1_entry (laws.layer l.work.header x) i) sees_now ∙ tables_stay i lt;
   }
     where
       sees_now : as_seen host f' ≡ G

@@ -1,5 +1,5 @@
 -- Reading the entry of a range, and a sector of counts.
-use Rattle.std.proofs.Common.{◌≡◌, ◌≢◌, ℕ, ◌+◌, ◌-◌, ◌*◌, ◌/◌, ◌%◌, ◌^◌, ◌<◌, ◌≤◌, min, List, Some, sym, ap, ◌∙◌, subst, arith}
+use Rattle.std.proofs.Common.{◌≡◌, ◌≢◌, ℕ, ◌+◌, ◌-◌, ◌*◌, ◌/◌, ◌%◌, ◌^◌, ◌<◌, ◌≤◌, min, List, Some, sym, ap, ◌∙◌, subst, arith, refl}
 use Rattle.std.proofs.Math.Nat.{mod-lt}
 use Rattle.sd_names.specs.declared.turn.Turn.TheVariants.{More}
 use Rattle.shared_disk.specs.Calls.{IsSame}
@@ -43,7 +43,7 @@ reads_on l host faults stage next f d e there same writer knows choice = record 
   put = same_put d e l.target.place f same there;
   comes = comes_itself l.work.header l.target.capacity f;
   after = (knows, choice);
-  spare = stay_known l l host f f writer (λ place is. is);
+  spare = stay_known l l host f f writer (λ place is. is) (λ i lt. refl);
 }
 
 module _ (l : Layer) (host : ℕ) (f : File) (w : Work) (ready : Ready l host f w) where

@@ -2,6 +2,7 @@ pub mod Dispatch
 pub mod Ends
 pub mod Entries
 pub mod Finds
+pub mod Firsts
 pub mod Least
 pub mod Raises
 pub mod Rows

@@ -16,7 +16,7 @@ use Rattle.shared_disk.specs.Content.{Content, File, sector_of, seen}
 use Rattle.shared_disk.specs.WellFormed.{IsWellFormedFile}
 use Rattle.qcow_format.specs.Bytes.{number}
 use Rattle.image_model.specs.File.{file_of}
-use Rattle.image_model.specs.Layer.{Tables, block_place, count_of, is_used}
+use Rattle.image_model.specs.Layer.{Tables, block_place, count_of, is_used, l1_entry}
 use Rattle.layer_laws.specs.Laws.{BlockRecounted, count_index}
 use Rattle.layer_laws.specs.Laws as laws
 use Rattle.layer_laws.proofs.Positions.{same_or_not}
@@ -354,6 +354,7 @@ module _ (l : Layer) (host : ℕ) (r : Raise) (f : File) (formed : IsWellFormedF
     stays = stay_known l m host f f' knows_now (λ place is.
         subst (λ (g : Header). IsSpare (laws.layer g (as_seen host f')) m.target.capacity place) (sym takes.same.header)
         (subst (λ t. IsSpare (laws.layer l.work.header (as_seen host f')) t.capacity place) (sym takes.same.target) (stays_spare place is)))
+        (λ i lt. ap (λ (g : Header). l1_entry (laws.layer g (as_seen host f')) i) takes.same.header ∙ recounted.same.tables i lt)
 
     spare_after : (turn : Turn Stage Clusters (Unit {0})) → KeepsSpare l m host turn f f'
     spare_after (More s) = stays

@@ -7,7 +7,7 @@ use Rattle.shared_disk.specs.Crash.{IsAlone}
 use Rattle.shared_disk.specs.Refusal.{refusal_of}
 use Rattle.shared_disk.specs.declared.disk.DiskAnswer.{DiskAnswer}
 use Rattle.image_model.specs.File as image
-use Rattle.image_model.specs.Layer.{block_place}
+use Rattle.image_model.specs.Layer.{block_place, l1_entry}
 use Rattle.layer_laws.specs.Laws as laws
 use Rattle.qcow_layer.specs.declared.layer.Layer.{Layer}
 use Rattle.qcow_layer.proofs.Pieces.{same_file}
@@ -36,7 +36,8 @@ syncs_on l host faults stage next f d e there call alone writer knows choice =
       put = subst (λ (x : File). IsPut d l.target.place (Some (synced host x)) e) is call.2;
       comes = synced_comes l.work.header l.target.capacity host f;
       after = (knows, choice);
-      spare = stay_known l l host f (synced host f) writer (λ place is. subst (λ (x : image.File). IsSpare (laws.layer l.work.header x) l.target.capacity place) (sym (synced_seen host f alone)) is);
+      spare = stay_known l l host f (synced host f) writer (λ place is. subst (λ (x : image.File). IsSpare (laws.layer l.work.header x) l.target.capacity place) (sym (synced_seen host f alone)) is)
+          (λ i lt. ap (λ (x : image.File). l1_entry (laws.layer l.work.header x) i) (synced_seen host f alone));
     }
 
 pub ready_synced : (l : Layer) (host : ℕ) (f : File) (w : Work) → Ready l host f w → Ready l host (synced host f) w

@@ -15,7 +15,7 @@ use Rattle.shared_disk.proofs.OwnWrites.{own_outside, own_within}
 use Rattle.qcow_format.specs.Bytes.{number}
 use Rattle.qcow_format.proofs.New.{number-zeros}
 use Rattle.qcow_format.proofs.Put.{number-same}
-use Rattle.image_model.specs.Layer.{Tables, block_at, block_place, count_of}
+use Rattle.image_model.specs.Layer.{Tables, block_at, block_place, count_of, l1_entry}
 use Rattle.layer_laws.specs.Laws as laws
 use Rattle.layer_laws.specs.Laws.{IsUnnamed, SameContent}
 use Rattle.layer_laws.proofs.Positions.{same_or_not}
@@ -206,6 +206,9 @@ module _ (l : Layer) (host : ℕ) (f : File) (w : Work) (table : List ℕ) (n : 
     pub spare_after : (place : ℕ) → IsSpare T l.target.capacity place → IsSpare (laws.layer l.work.header (as_seen host f')) l.target.capacity place
     spare_after place = spare_stays l.work.header l.target.capacity place (as_seen host f) (as_seen host f') content (same_size f (seen host f) (seen host f'))
 
+    pub tables_after : (i : ℕ) → i < l.work.header.l1_size → l1_entry (laws.layer l.work.header (as_seen host f')) i ≡ l1_entry T i
+    tables_after i lt = content.same.tables i lt
+
     pub ready_after : Ready l host f' w
     ready_after = record {
       writer = unnamed_knows l did host at b bytes f formed lacks.ready.writer inside first_unnamed;
@@ -343,7 +346,8 @@ module _ (l : Layer) (host faults piece at size : ℕ) (w : Work) (table room : 
           put = subst (λ (x : File). IsPut d l.target.place (Some (wrote (λ _. true) host at bytes x)) e) same call.3;
           comes = unnamed_comes l (λ _. true) host at b' bytes f formed lacks.ready.writer inside (first_unnamed l host f w table (piece * u) lacks);
           after = (knows, choice);
-          spare = stay_known l l host f g (ready_after l host f w table (piece * u) lacks (λ _. true) at bytes formed inside).writer (spare_after l host f w table (piece * u) lacks (λ _. true) at bytes formed inside);
+          spare = stay_known l l host f g (ready_after l host f w table (piece * u) lacks (λ _. true) at bytes formed inside).writer (spare_after l host f w table (piece * u) lacks (λ _. true) at bytes formed inside)
+              (tables_after l host f w table (piece * u) lacks (λ _. true) at bytes formed inside);
         }
 
     pub writes_more : (piece + 1) * size < c' → StepsIn l l host faults (Zeroing w table piece) (More (Zeroing w table (piece + 1))) f d e

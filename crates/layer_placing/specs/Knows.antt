@@ -9,7 +9,7 @@ use Rattle.shared_disk.specs.Content.{Content, File, seen}
 use Rattle.shared_disk.specs.Crash.{IsAlone, IsSettled, OnEach}
 use Rattle.qcow_format.specs.Bytes.{number}
 use Rattle.qcow_format.specs.declared.header.Header.{Header}
-use Rattle.image_model.specs.Layer.{block_place}
+use Rattle.image_model.specs.Layer.{block_place, l1_entry}
 use Rattle.image_model.specs.Room.{end_of_room, room_of}
 use Rattle.image_model.specs.Soundness.{IsSound}
 use Rattle.layer_laws.specs.Laws as laws
@@ -155,10 +155,11 @@ abbrev pub EndsBy : Layer → Layer → ℕ → ℕ → Stage → File → File 
 EndsBy layer next host faults stage f now refusal = ((refusal ≡ DiskFault faults) × IsLeft next host now) ⊎ RefusesRoom layer next host stage f now refusal
 
 -- Places that were spare before a step, as those of an earlier placing that no entry names yet: they are spare as the host
--- sees the file then, and named by nothing on each outcome of it.
+-- sees the file then, and named by nothing on each outcome of it. Each L1 entry names the L2 table that it named.
 pub record StaySpare (layer next : Layer) (host : ℕ) (f now : File) : Type 0 where
   pub spare : (place : ℕ) → IsSpare (seen_tables layer host f) (capacity_kept layer) place → IsSpare (seen_tables next host now) (capacity_kept next) place
   pub unnamed : (place : ℕ) → IsSpare (seen_tables layer host f) (capacity_kept layer) place → OnEach now (λ g. laws.IsUnnamed (laws.layer (header_kept next) (on_medium g)) (capacity_kept next) place)
+  pub tables : (i : ℕ) → i < (header_kept layer).l1_size → l1_entry (seen_tables next host now) i ≡ l1_entry (seen_tables layer host f) i
 
 -- So they stay unless the step is refused. Want of room changes nothing, and a fault may lose counts that weren't synced.
 abbrev pub KeepsSpare : {S : Type 0} → Layer → Layer → ℕ → Turn S Clusters (Unit {0}) → File → File → Type 0

@@ -55,8 +55,9 @@ fn wanted_length(layer: &Layer, count: u8, most: u64) -> u64
     (chosen.get(chosen.count() - 1) + 1) * cluster
 }
 
-/// Chooses the least free clusters of a file of so many bytes, or says what room there is and what would do.
-pub(crate) fn choose(layer: &Layer, count: u8, length: u64) -> Result<Clusters, Refusal>
+/// Chooses the least free clusters of a file of so many bytes, 1 to 40, or says what room there is and what would do, both in
+/// bytes. Nothing is taken by it.
+pub fn choose(layer: &Layer, count: u8, length: u64) -> Result<Clusters, Refusal>
     requires some { 1 ≤ count }
     requires few { count ≤ 40 }
     ensures { Chooses layer.now count length result }

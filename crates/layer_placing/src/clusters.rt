@@ -13,8 +13,8 @@ pub struct Clusters {
 impl Clusters {
     ghost use Rattle.layer_placing.specs.Chosen.{listed};
 
-    /// No cluster.
-    pub(crate) fn none() -> Clusters
+    /// No cluster, as for a write that wants none.
+    pub fn none() -> Clusters
         ensures { listed result ≡ [] }
     {
         Clusters {

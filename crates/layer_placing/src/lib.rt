@@ -9,5 +9,6 @@ pub mod laws;
 mod placing;
 mod stage;
 
+pub use choosing::choose;
 pub use clusters::Clusters;
 pub use placing::Placing;
