@@ -75,6 +75,15 @@ impl WritePlan {
         }
     }
 
+    /// What was found of a cluster, by its index among those that the part meets. None where it wasn't looked up.
+    pub fn found(&self, index: usize) -> Option<Looked>
+        requires { index < count_of (span_of self.now) }
+        ensures { result ≡ found_at self.now index }
+    {
+        let _count = self.span.count();
+        self.found[index]
+    }
+
     // Whether the layer has no cluster of the file for a cluster.
     fn lacks_place(&self, index: usize) -> bool
         requires { index < 17 }
