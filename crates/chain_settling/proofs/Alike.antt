@@ -19,7 +19,7 @@ use Rattle.chain_gathering.specs.Knowing.{volumes_in}
 use Rattle.chain_records.specs.Settling.{IsRewritten}
 use Rattle.qcow_layer.specs.declared.layer.Layer.{Layer}
 use Rattle.volume_chain.specs.declared.chain.Chain.{Chain}
-use Rattle.chain_settling.specs.Alike.{HoldsAlike, IsOfImage, ReadsAlike}
+use Rattle.chain_settling.specs.Alike.{HasTypeOf, HoldsAlike, IsOfImage, ReadsAlike}
 use Rattle.chain_settling.specs.Steps.{IsLayerStep}
 use Rattle.chain_settling.specs.Was.{AreLeftAlone, IsLeftAlone, IsOffLayers, file_in, folder_in, text_in}
 
@@ -40,6 +40,7 @@ pub alike_kept : (i : Image) (dir : Dir) (r : Records) (x : Volumes) (d e : Cont
 alike_kept i dir r x d e kept a = record {
   texts = λ v. subst (λ (o : Option File). IsAlso (λ f g. IsSettled g) (x.text v) o) (sym (kept.texts v)) (a.texts v);
   partly = λ v. subst (λ (o : Option VolumeRecord). (o ≡ r v) ⊎ IsRewritten r v (r v) o) (sym (said_same i dir v d e (kept.texts v))) (a.partly v);
+  types = λ v. subst (HasTypeOf r v) (sym (said_same i dir v d e (kept.texts v))) (a.types v);
   files = λ v. subst (λ (o : Option File). IsAlso (λ f g. OnEach g (HoldsAlike (r v) f)) (x.file v) o) (sym (kept.files v)) (a.files v);
 }
 
@@ -66,10 +67,11 @@ same_or_not u v = go (id_is u v) refl
     go false e = inr (λ same. false≢true (sym e ∙ ap (λ (w : Id). id_is w v) same ∙ id_is-itself v))
 
 pub alike_written : (i : Image) (dir : Dir) (r : Records) (x : Volumes) (v : Id) (y : VolumeRecord) (d e : Content) → IsOfImage i y → (f : File) → x.text v ≡ Some f
-    → (Some y ≡ r v) ⊎ IsRewritten r v (r v) (Some y) → IsWritten i dir v y d e → ReadsAlike i dir r x d → ReadsAlike i dir r x e
-alike_written i dir r x v y d e own f text is written a = record {
+    → (Some y ≡ r v) ⊎ IsRewritten r v (r v) (Some y) → HasTypeOf r v (Some y) → IsWritten i dir v y d e → ReadsAlike i dir r x d → ReadsAlike i dir r x e
+alike_written i dir r x v y d e own f text is typed written a = record {
   texts = λ u. at_text u (same_or_not u v);
   partly = λ u. at_record u (same_or_not u v);
+  types = λ u. at_type u (same_or_not u v);
   files = λ u. subst (λ (o : Option File). IsAlso (λ f g. OnEach g (HoldsAlike (r u) f)) (x.file u) o) (sym (written.files u)) (a.files u);
 }
   where
@@ -87,6 +89,13 @@ alike_written i dir r x v y d e own f text is written a = record {
     at_record : (u : Id) → (u ≡ v) ⊎ (u ≢ v) → (records_of i (volumes_in dir e) u ≡ r u) ⊎ IsRewritten r u (r u) (records_of i (volumes_in dir e) u)
     at_record u (inl same) = subst (λ (w : Id). (records_of i (volumes_in dir e) w ≡ r w) ⊎ IsRewritten r w (r w) (records_of i (volumes_in dir e) w)) (sym same) now
     at_record u (inr other) = subst (λ (o : Option VolumeRecord). (o ≡ r u) ⊎ IsRewritten r u (r u) o) (sym (said_same i dir u d e (written.others u other))) (a.partly u)
+
+    typed_here : HasTypeOf r v (records_of i (volumes_in dir e) v)
+    typed_here = subst (HasTypeOf r v) (sym (said_record i dir v y e own written.has)) typed
+
+    at_type : (u : Id) → (u ≡ v) ⊎ (u ≢ v) → HasTypeOf r u (records_of i (volumes_in dir e) u)
+    at_type u (inl same) = subst (λ (w : Id). HasTypeOf r w (records_of i (volumes_in dir e) w)) (sym same) typed_here
+    at_type u (inr other) = subst (HasTypeOf r u) (sym (said_same i dir u d e (written.others u other))) (a.types u)
 
 -- ---- files of layers
 

@@ -1,10 +1,11 @@
 -- What is known as the rewriting of a text begins, and as a text stays.
-use Rattle.std.proofs.Common.{◌≡◌, ◌⊎◌, ℕ, ◌+◌, ◌<◌, ◌≤◌, List, length, Option, Some, None, refl, sym, ap, ◌∙◌, subst, inl, inr, arith}
+use Rattle.std.proofs.Common.{◌≡◌, ◌≢◌, ◌⊎◌, ℕ, ◌+◌, ◌<◌, ◌≤◌, true, List, length, Option, Some, None, refl, sym, ap, ◌∙◌, subst, inl, inr, arith}
 use Rattle.std.specs.Prelude.{slice_get}
 use Rattle.std.specs.Option.{option_map}
 use Rattle.std.proofs.lemmas.Bool.{cases_lt}
 use Rattle.std.proofs.lemmas.Option.{get_or_from_slice_get, none-some, same_Some, slice_get-map, slice_get_within}
 use Rattle.sd_names.specs.declared.id.Id.{Id}
+use Rattle.sd_names.specs.declared.kinds.VolType.{VolType}
 use Rattle.sd_names.specs.Turn.{MatchTurn}
 use Rattle.sd_names.specs.declared.place.Place.{Place}
 use Rattle.sd_names.specs.declared.refusal.Refusal.TheVariants.{DiskFault}
@@ -20,33 +21,34 @@ use Rattle.whole_file.specs.declared.replace.Stage.{Stage as ReplaceStage}
 use Rattle.whole_file.specs.declared.replace.Stage.TheVariants.{Begun}
 use Rattle.qcow_layer.specs.Opening.{place_kept}
 use Rattle.chain_model.specs.Folder.{Volumes}
-use Rattle.chain_model.specs.Records.{Records}
+use Rattle.chain_model.specs.Records.{Records, is_legal}
 use Rattle.chain_records.specs.Records.{files_of, ids_of, records_in}
 use Rattle.chain_records.specs.Rewriting.{changed, naming, typed}
 use Rattle.chain_records.specs.Settling.{ArePartlyRewritten, AreRewritten, HasPassedParent, IsRewritten}
 use Rattle.chain_records.specs.declared.volume.Volume.{Volume}
 use Rattle.chain_records.proofs.Lists.{some_record}
+use Rattle.chain_records.proofs.Partly.{legal_alike}
 use Rattle.chain_records.proofs.Stepwise.{parent_step, parents_done, type_step}
 use Rattle.chain_gathering.specs.Steps.{IsShown}
 use Rattle.volume_chain.specs.Chain.{records_kept}
 use Rattle.volume_chain.specs.Parts.{version_of as chain_version, with_records}
 use Rattle.volume_chain.specs.declared.chain.Chain.{Chain}
-use Rattle.chain_settling.specs.Alike.{IsOfImage, KnowsImage, ReadsAlike}
+use Rattle.chain_settling.specs.Alike.{HasTypeOf, IsOfImage, KnowsImage, ReadsAlike}
 use Rattle.chain_settling.specs.Was.{folder_in, image_kept}
 use Rattle.chain_settling.specs.Begun.{IsBegunText, IsEndTurn}
 use Rattle.chain_settling.specs.Fit.{AreValid, IsFit, StageTurn, chain_in}
 use Rattle.chain_settling.specs.Left.{MeetsAt}
 use Rattle.chain_settling.specs.Knowing.{AreTo, IsDone, IsPartDone, IsSettledImage, IsTyped, KnowsTexts, KnowsWriting}
 use Rattle.chain_settling.specs.Steps.{KnowsStage, Settles, SettlesIn}
-use Rattle.chain_settling.specs.Work.{IsChange, IsIdAt, changed_to}
+use Rattle.chain_settling.specs.Work.{IsChange, IsIdAt, IsRightType, changed_to}
 use Rattle.chain_settling.specs.declared.stages.Part.{Part}
 use Rattle.chain_settling.specs.declared.stages.Part.TheVariants.{Parents, Types}
 use Rattle.chain_settling.specs.declared.stages.Stage.{Stage}
 use Rattle.chain_settling.specs.declared.stages.Stage.TheVariants.{Texts}
 use Rattle.chain_settling.specs.declared.texts.Change.{Change}
 use Rattle.chain_settling.specs.declared.texts.Change.TheVariants.{Parent, Voltype}
-use Rattle.chain_settling.proofs.Alike.{no_step}
-use Rattle.chain_settling.proofs.Plans.{changed_there, done_on, names_up, parent_by, partly, place_of, right_before, stays_done, typed_on, was}
+use Rattle.chain_settling.proofs.Alike.{no_step, same_or_not}
+use Rattle.chain_settling.proofs.Plans.{changed_here, changed_there, done_on, names_up, parent_by, partly, place_of, right_before, stays_done, typed_on, voltype_in, was}
 
 -- ---- records that are the same one by one
 
@@ -149,6 +151,27 @@ changed_partly Parents c i v (Voltype t) r x d k done is = absurd is
 changed_partly Types c i v (Parent up) r x d k done is = absurd is
 changed_partly Types c i v (Voltype t) r x d k done is = partly r (changed v (typed t) (records_in (records_kept c))) (type_step r (records_in (records_kept c)) v t done.0)
 
+-- a change leaves each VOLTYPE as it was, or makes it the one that it has to be
+changed_types : (p : Part) (c : Chain) (v : Id) (change : Change) (r : Records) (x : Volumes) (d : Content) → KnowsImage c r x d → IsChange p (records_in (records_kept c)) v (Some change)
+    → (u : Id) → HasTypeOf r u (changed v (changed_to change) (records_in (records_kept c)) u)
+changed_types p c v change r x d k is u = go (same_or_not u v)
+  where
+    mapped : (p : Part) (change : Change) (o : Option VolumeRecord) → IsChange p (records_in (records_kept c)) v (Some change) → HasTypeOf r v o → HasTypeOf r v (option_map (changed_to change) o)
+    mapped Parents (Parent up) None is has was y at now = absurd cc
+    mapped Parents (Parent up) (Some z) is has was y at now =
+        subst (λ (w : VolumeRecord). (w.voltype ≡ was.voltype) ⊎ ((is_legal r v ≡ true) × IsRightType r v w.voltype)) (same_Some (naming up z) y now) (has was z at refl)
+    mapped Parents (Voltype t) o is has was y at now = absurd is
+    mapped Types (Parent up) o is has was y at now = absurd is
+    mapped Types (Voltype t) o is has was y at now =
+        inr (sym (legal_alike r (records_in (records_kept c)) v k.partly) ∙ is.0, subst (λ (n : VolType). IsRightType r v n) (sym (voltype_in o t y now)) (right_before r (records_in (records_kept c)) v t k.chains k.partly is.1))
+
+    here : HasTypeOf r v (changed v (changed_to change) (records_in (records_kept c)) v)
+    here = subst (HasTypeOf r v) (sym (changed_here v (changed_to change) (records_in (records_kept c)))) (mapped p change (records_in (records_kept c) v) is (k.types v))
+
+    go : (u ≡ v) ⊎ (u ≢ v) → HasTypeOf r u (changed v (changed_to change) (records_in (records_kept c)) u)
+    go (inl same) = subst (λ (w : Id). HasTypeOf r w (changed v (changed_to change) (records_in (records_kept c)) w)) (sym same) here
+    go (inr other) = subst (HasTypeOf r u) (sym (changed_there v u (changed_to change) (records_in (records_kept c)) other)) (k.types u)
+
 changed_done : (p : Part) (c : Chain) (i : ℕ) (v : Id) (change : Change) (xs : List Volume) (r : Records) (x : Volumes) (d : Content) → KnowsImage c r x d → IsPartDone c r p i
     → slice_get (ids_of (records_kept c)) i ≡ Some v → ids_of xs ≡ ids_of (records_kept c)
     → ((u : Id) → records_in xs u ≡ changed v (changed_to change) (records_in (records_kept c)) u)
@@ -162,7 +185,7 @@ changed_done Parents c i v (Voltype t) xs r x d k done at ids same is = absurd i
 changed_done Types c i v (Parent up) xs r x d k done at ids same is = absurd is
 changed_done Types c i v (Voltype t) xs r x d k done at ids same is =
     let s : Records = records_in (records_kept c) in
-    let right = right_before r s v t k.chains k.partly is in (
+    let right = right_before r s v t k.chains k.partly is.1 in (
       rewritten_same r (changed v (typed t) s) (records_in xs) same (type_step r s v t done.0),
       λ j u low here. place_on c (IsTyped r s) (IsTyped r (records_in xs)) i v at
           (λ w was. typed_same r (changed v (typed t) s) (records_in xs) w (same w) (typed_on r s v w t right was)) done.1 j u low (ap (λ (vs : List Id). slice_get vs j) (sym ids) ∙ here),
@@ -182,6 +205,7 @@ text_begins c p i host v change xs w r x d k at is valid ids files same says her
     chains = k.image.chains;
     alike = k.image.alike;
     partly = partly_same r (changed v (changed_to change) s) (records_in xs) same (changed_partly p c i v change r x d k.image k.done is);
+    types = λ u. subst (HasTypeOf r u) (sym (same u)) (changed_types p c v change r x d k.image is u);
     kept = λ u y e. let z = was v (changed_to change) s u y (sym (same u) ∙ e) in k.image.kept u z.0 z.1;
     legible = λ u y e. let z = was v (changed_to change) s u y (sym (same u) ∙ e) in of_image u y e z.0 (k.image.legible u z.0 z.1) z.2;
     cows = k.image.cows;

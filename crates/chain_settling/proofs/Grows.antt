@@ -39,7 +39,7 @@ use Rattle.volume_chain.specs.Chain.{open_in, records_kept}
 use Rattle.volume_chain.specs.declared.chain.Chain.{Chain}
 use Rattle.volume_chain.specs.declared.volumes.OpenVolume.{OpenVolume}
 use Rattle.volume_chain.specs.declared.volumes.OpenVolume.TheVariants.{Cow, Raw}
-use Rattle.chain_settling.specs.Alike.{HoldsAlike, KnowsImage, ReadsAlike}
+use Rattle.chain_settling.specs.Alike.{HasTypeOf, HoldsAlike, KnowsImage, ReadsAlike}
 use Rattle.chain_settling.specs.Was.{file_in, folder_in, image_kept, text_in}
 use Rattle.chain_settling.specs.Fit.{StageTurn}
 use Rattle.chain_settling.specs.Knowing.{AreLongFrom, AreWholeTo, IsSettledImage, KnowsFiles, KnowsHeaders, KnowsLayers, KnowsLengthening, KnowsLengths, KnowsSettled, KnowsTexts, TellsUp}
@@ -70,6 +70,7 @@ image_kept_on c r x d e dir kept k = record {
   chains = k.chains;
   alike = alike_kept (image_kept c) (folder_in c) r x d e kept k.alike;
   partly = k.partly;
+  types = k.types;
   kept = k.kept;
   legible = k.legible;
   cows = k.cows;
@@ -211,6 +212,7 @@ module _ (c : Chain) (at : ℕ) (m : Layer) (l : Lengthening) (host faults : ℕ
   alike = record {
     texts = λ v. subst (λ (o : Option File). IsAlso (λ f g. IsSettled g) (x.text v) o) (sym (texts_same v)) (k.files.image.alike.texts v);
     partly = λ v. subst (λ (o : Option VolumeRecord). (o ≡ r v) ⊎ IsRewritten r v (r v) o) (sym (said_same (image_kept c) dir v d e (texts_same v))) (k.files.image.alike.partly v);
+    types = λ v. subst (HasTypeOf r v) (sym (said_same (image_kept c) dir v d e (texts_same v))) (k.files.image.alike.types v);
     files = λ v. file v (same_or_not v (volume_kept m));
   }
     where
@@ -224,6 +226,7 @@ module _ (c : Chain) (at : ℕ) (m : Layer) (l : Lengthening) (host faults : ℕ
     chains = k.files.image.chains;
     alike = alike;
     partly = k.files.image.partly;
+    types = k.files.image.types;
     kept = k.files.image.kept;
     legible = k.files.image.legible;
     cows = k.files.image.cows;

@@ -48,7 +48,7 @@ use Rattle.volume_chain.specs.declared.chain.Chain.{Chain}
 use Rattle.volume_chain.specs.declared.chain.Target as chains
 use Rattle.volume_chain.specs.declared.volumes.OpenVolume.{OpenVolume}
 use Rattle.volume_chain.specs.declared.volumes.OpenVolume.TheVariants.{Cow, Raw}
-use Rattle.chain_settling.specs.Alike.{HoldsAlike, IsCow, IsCowOf, IsSaid, KnowsImage, ReadsAlike}
+use Rattle.chain_settling.specs.Alike.{HasTypeOf, HoldsAlike, IsCow, IsCowOf, IsSaid, KnowsImage, ReadsAlike}
 use Rattle.chain_settling.specs.Was.{IsLeftAlone, IsOffLayers, WasLong, file_in, folder_in, image_kept, text_in}
 use Rattle.chain_settling.specs.Fit.{StageTurn}
 use Rattle.chain_settling.specs.Knowing.{IsHeadOf, KnowsHeaders, KnowsHeading, KnowsSettled, TellsUp}
@@ -163,6 +163,7 @@ module _ (c : Chain) (at : ℕ) (h : Rebasing) (after : Layer) (host faults : �
   alike = record {
     texts = λ u. subst (λ (o : Option File). IsAlso (λ f g. IsSettled g) (x.text u) o) (sym (texts_same u)) (k.image.alike.texts u);
     partly = λ u. subst (λ (o : Option VolumeRecord). (o ≡ r u) ⊎ IsRewritten r u (r u) o) (sym (said_same (image_kept c) dir u d e (texts_same u))) (k.image.alike.partly u);
+    types = λ u. subst (HasTypeOf r u) (sym (said_same (image_kept c) dir u d e (texts_same u))) (k.image.alike.types u);
     files = λ u. file u (same_or_not u (volume_kept k.layer));
   }
     where
@@ -225,6 +226,7 @@ module _ (c : Chain) (at : ℕ) (h : Rebasing) (after : Layer) (host faults : �
     chains = k.image.chains;
     alike = alike;
     partly = k.image.partly;
+    types = k.image.types;
     kept = k.image.kept;
     legible = k.image.legible;
     cows = λ b l is. cow b l is (nat_cases b at);

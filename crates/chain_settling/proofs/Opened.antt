@@ -55,6 +55,7 @@ itself : (i : Image) (dir : Dir) (d : Content) → AreSettled dir d → ReadsAli
 itself i dir d settled = record {
   texts = λ v. text v (d.file (text_in dir v)) refl;
   partly = λ v. inl refl;
+  types = λ v x y was now. inl (ap (λ (z : VolumeRecord). z.voltype) (same_Some y x (sym now ∙ was)));
   files = λ v. file v (d.file (file_in dir v)) refl;
 }
   where
@@ -209,6 +210,7 @@ module _ (c : Chain) (host : ℕ) (d : Content) (is_open : IsOpen c host d) (for
     chains = λ v. subst (λ (s : Records). HasChain s v) (sym same) (has_chain (records_kept c) v is_open.knows.shape.checked);
     alike = itself (image_kept c) (folder_in c) d is_open.settled;
     partly = λ v. inl (sym (said v));
+    types = λ v x y was now. inl (ap (λ (z : VolumeRecord). z.voltype) (same_Some y x (sym now ∙ sym (said v) ∙ was)));
     kept = λ v y e. let text = from_text (image_kept c) (d.file (text_in (folder_in c) v)) y (said v ∙ e) in (text.0, text.1);
     legible = λ v y e. of_image (image_kept c) (d.file (text_in (folder_in c) v)) y (is_open.knows.shape.valid v y e) (said v ∙ e);
     cows = cow;

@@ -16,7 +16,7 @@ use Rattle.chain_model.proofs.Flats.{flat_alike}
 use Rattle.chain_records.specs.Paths.{HasChain}
 use Rattle.chain_records.specs.Settling.{ArePartlyRewritten, IsRewritten}
 use Rattle.chain_records.proofs.Partly.{flats_alike, reading_alike}
-use Rattle.chain_settling.specs.Alike.{HoldsAlike, ReadsAlike}
+use Rattle.chain_settling.specs.Alike.{HasTypeOf, HoldsAlike, ReadsAlike}
 use Rattle.chain_settling.specs.Was.{file_in, text_in}
 use Rattle.chain_settling.proofs.Alike.{said_same}
 
@@ -32,6 +32,9 @@ text_on i dir r x d o a out v = go (x.text v) (d.file (text_in dir v)) refl (a.t
 pub records_on : (i : Image) (dir : Dir) (r : Records) (x : Volumes) (d o : Content) → ReadsAlike i dir r x d → IsOutcome d o → ArePartlyRewritten r (records_of i (volumes_in dir o))
 records_on i dir r x d o a out v =
     subst (λ (y : Option VolumeRecord). (y ≡ r v) ⊎ IsRewritten r v (r v) y) (sym (said_same i dir v d o (text_on i dir r x d o a out v))) (a.partly v)
+
+pub types_on : (i : Image) (dir : Dir) (r : Records) (x : Volumes) (d o : Content) → ReadsAlike i dir r x d → IsOutcome d o → (v : Id) → HasTypeOf r v (records_of i (volumes_in dir o) v)
+types_on i dir r x d o a out v = subst (HasTypeOf r v) (sym (said_same i dir v d o (text_on i dir r x d o a out v))) (a.types v)
 
 pub reading_on : (i : Image) (dir : Dir) (r : Records) (x : Volumes) (d o : Content) (v : Id) (vs : List Id) → ReadsAlike i dir r x d → IsOutcome d o
     → IsReading r v vs → (ws : List Id) × IsReading (records_of i (volumes_in dir o)) v ws

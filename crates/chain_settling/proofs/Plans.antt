@@ -115,7 +115,7 @@ right_before r s v t chains are is = record {
 pub partly : (r s : Records) → AreRewritten r s → ArePartlyRewritten r s
 partly r s are v = inr (are v)
 
-voltype_in : (o : Option VolumeRecord) (t : VolType) (y : VolumeRecord) → option_map (typed t) o ≡ Some y → y.voltype ≡ t
+pub voltype_in : (o : Option VolumeRecord) (t : VolType) (y : VolumeRecord) → option_map (typed t) o ≡ Some y → y.voltype ≡ t
 voltype_in None t y e = absurd cc
 voltype_in (Some x) t y e = ap (λ (z : VolumeRecord). z.voltype) (sym (same_Some (typed t x) y e))
 

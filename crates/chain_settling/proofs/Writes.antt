@@ -32,7 +32,7 @@ use Rattle.chain_records.specs.Settling.{IsRewritten}
 use Rattle.chain_records.specs.declared.volume.Volume.{Volume}
 use Rattle.volume_chain.specs.Chain.{records_kept}
 use Rattle.volume_chain.specs.declared.chain.Chain.{Chain}
-use Rattle.chain_settling.specs.Alike.{AreSaidBut, IsSaid, KnowsImage, ReadsAlike}
+use Rattle.chain_settling.specs.Alike.{AreSaidBut, HasTypeOf, IsSaid, KnowsImage, ReadsAlike}
 use Rattle.chain_settling.specs.Was.{file_in, folder_in, image_kept, text_in}
 use Rattle.chain_settling.specs.Fit.{StageTurn}
 use Rattle.chain_settling.specs.Knowing.{KnowsRest, KnowsSettled, KnowsTexts, KnowsWriting}
@@ -134,6 +134,9 @@ module _ (c : Chain) (p : Part) (i : ℕ) (w : TextWrite) (host faults : ℕ) (r
   is_partly : (Some k.says ≡ r k.volume) ⊎ IsRewritten r k.volume (r k.volume) (Some k.says)
   is_partly = subst (λ (o : Option VolumeRecord). (o ≡ r k.volume) ⊎ IsRewritten r k.volume (r k.volume) o) k.is (k.image.partly k.volume)
 
+  is_typed : HasTypeOf r k.volume (Some k.says)
+  is_typed = subst (HasTypeOf r k.volume) k.is (k.image.types k.volume)
+
   pub alike : ReadsAlike (image_kept c) dir r x e
   alike = go (steps.text (k.image.legible k.volume k.says k.is).legible)
     where
@@ -145,7 +148,7 @@ module _ (c : Chain) (p : Part) (i : ℕ) (w : TextWrite) (host faults : ℕ) (r
           at u (inr other) = texts_same u other
       go (inr has) =
           let text = k.image.kept k.volume k.says k.is in
-          alike_written (image_kept c) dir r x k.volume k.says d e (k.image.legible k.volume k.says k.is) text.0 text.1 is_partly (written has) k.image.alike
+          alike_written (image_kept c) dir r x k.volume k.says d e (k.image.legible k.volume k.says k.is) text.0 text.1 is_partly is_typed (written has) k.image.alike
 
   image : KnowsImage c r x e
   image = record {
@@ -153,6 +156,7 @@ module _ (c : Chain) (p : Part) (i : ℕ) (w : TextWrite) (host faults : ℕ) (r
     chains = k.image.chains;
     alike = alike;
     partly = k.image.partly;
+    types = k.image.types;
     kept = k.image.kept;
     legible = k.image.legible;
     cows = k.image.cows;

@@ -1,5 +1,5 @@
 -- An image that reads alike while it is settled, and what is known of it.
-use Rattle.std.specs.Prelude.{◌≡◌, ◌≢◌, ℕ, true, Option, Some, None}
+use Rattle.std.specs.Prelude.{◌≡◌, ◌≢◌, ◌⊎◌, ℕ, true, Option, Some, None}
 use Rattle.sd_names.specs.declared.id.Id.{Id}
 use Rattle.sd_names.specs.declared.place.Dir.{Dir}
 use Rattle.sd_names.specs.declared.kinds.Format.TheVariants.{Cow}
@@ -12,7 +12,7 @@ use Rattle.volume_meta.specs.declared.record.VolumeRecord.{VolumeRecord}
 use Rattle.volume_texts.specs.Legible.{IsLegible}
 use Rattle.chain_model.specs.Folder.{Volumes}
 use Rattle.chain_model.specs.Own.{own_by}
-use Rattle.chain_model.specs.Records.{Image, Records, records_of}
+use Rattle.chain_model.specs.Records.{Image, Records, is_legal, records_of}
 use Rattle.chain_gathering.specs.Knowing.{volumes_in}
 use Rattle.chain_records.specs.Paths.{HasChain}
 use Rattle.chain_records.specs.Records.{records_in}
@@ -20,17 +20,22 @@ use Rattle.chain_records.specs.Settling.{ArePartlyRewritten}
 use Rattle.volume_chain.specs.Chain.{records_kept}
 use Rattle.volume_chain.specs.declared.chain.Chain.{Chain}
 use Rattle.chain_settling.specs.Was.{AreLeftAlone, WasOpen, file_in, folder_in, image_kept, text_in}
-use Rattle.chain_settling.specs.Work.{IsLayerAt}
+use Rattle.chain_settling.specs.Work.{IsLayerAt, IsRightType}
 
 -- a second file of a volume holds what the first one holds
 abbrev pub HoldsAlike : Option VolumeRecord → File → File → Type 0
 HoldsAlike o f g = (k : ℕ) → own_by o (Some g) k ≡ own_by o (Some f) k
 
+-- A VOLTYPE is as it was or, of a LEGAL volume, the one that it has to have. So an ILLEGAL volume keeps its own.
+abbrev pub HasTypeOf : Records → Id → Option VolumeRecord → Type 0
+HasTypeOf r v o = (x y : VolumeRecord) → r v ≡ Some x → o ≡ Some y → (y.voltype ≡ x.voltype) ⊎ ((is_legal r v ≡ true) × IsRightType r v y.voltype)
+
 -- Of an image with these records and files: each text is there whole, as it was or with a parent that was rewritten to the one
--- that counts, or another VOLTYPE; and each volume's file holds what it held, whatever crashes leave.
+-- that counts, or with the VOLTYPE that it has to have; and each volume's file holds what it held, whatever crashes leave.
 pub record ReadsAlike (i : Image) (dir : Dir) (r : Records) (x : Volumes) (d : Content) : Type 0 where
   pub texts : (v : Id) → IsAlso (λ f g. IsSettled g) (x.text v) (d.file (text_in dir v))
   pub partly : ArePartlyRewritten r (records_of i (volumes_in dir d))
+  pub types : (v : Id) → HasTypeOf r v (records_of i (volumes_in dir d) v)
   pub files : (v : Id) → IsAlso (λ f g. OnEach g (HoldsAlike (r v) f)) (x.file v) (d.file (file_in dir v))
 
 -- a layer is that of a record of its capacity
@@ -55,6 +60,7 @@ pub record KnowsImage (c : Chain) (r : Records) (x : Volumes) (d : Content) : Ty
   pub chains : (v : Id) → HasChain r v
   pub alike : ReadsAlike (image_kept c) (folder_in c) r x d
   pub partly : ArePartlyRewritten r (records_in (records_kept c))
+  pub types : (v : Id) → HasTypeOf r v (records_in (records_kept c) v)
   pub kept : (v : Id) (y : VolumeRecord) → records_in (records_kept c) v ≡ Some y → (f : File) × (x.text v ≡ Some f)
   pub legible : (v : Id) (y : VolumeRecord) → records_in (records_kept c) v ≡ Some y → IsOfImage (image_kept c) y
   pub cows : (b : ℕ) (l : Layer) → IsLayerAt c b l → IsCow l (r (volume_kept l))

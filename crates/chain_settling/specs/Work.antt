@@ -79,7 +79,7 @@ IsParentChange r v None = HasPassedParent r v → (up : Id) → IsOver r v up �
 IsParentChange r v (Some (change.Parent up)) = IsOver r v up × HasPassedParent r v
 IsParentChange r v (Some (change.Voltype t)) = ⊥
 
--- LEAF for a LEGAL volume exactly where no volume names it, and else INTERNAL; an ILLEGAL one keeps its own
+-- LEAF for a LEGAL volume exactly where no volume names it, and else INTERNAL
 pub record IsRightType (r : Records) (v : Id) (t : VolType) : Type 0 where
   pub internal : is_legal r v ≡ true → IsNamed r v → t ≡ voltype.Internal
   pub leaf : is_legal r v ≡ true → (IsNamed r v → ⊥) → t ≡ voltype.Leaf
@@ -87,7 +87,7 @@ pub record IsRightType (r : Records) (v : Id) (t : VolType) : Type 0 where
 abbrev pub IsTypeChange : Records → Id → Option Change → Type 0
 IsTypeChange r v None = (x : VolumeRecord) → r v ≡ Some x → IsRightType r v x.voltype
 IsTypeChange r v (Some (change.Parent up)) = ⊥
-IsTypeChange r v (Some (change.Voltype t)) = IsRightType r v t
+IsTypeChange r v (Some (change.Voltype t)) = (is_legal r v ≡ true) × IsRightType r v t × ((x : VolumeRecord) → r v ≡ Some x → x.voltype ≢ t)
 
 abbrev pub IsChange : Part → Records → Id → Option Change → Type 0
 IsChange part.Parents r v o = IsParentChange r v o

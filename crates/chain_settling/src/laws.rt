@@ -22,7 +22,7 @@ ghost use Rattle.volume_chain.specs.Chain.{open_in, records_kept};
 ghost use Rattle.volume_chain.specs.Knowing.{KnowsChain};
 ghost use Rattle.volume_chain.specs.Stages.{IsOpen};
 ghost use Rattle.volume_chain.specs.declared.chain.Chain.{Chain};
-ghost use Rattle.chain_settling.specs.Alike.{ReadsAlike};
+ghost use Rattle.chain_settling.specs.Alike.{HasTypeOf, ReadsAlike};
 ghost use Rattle.chain_settling.specs.Was.{folder_in, image_kept};
 ghost use Rattle.chain_settling.specs.declared.settling.Settling.{Settling};
 ghost use Rattle.chain_settling.specs.Fit.{AreValid};
@@ -35,6 +35,8 @@ ghost use Rattle.chain_settling.specs.Settling.{BeginsTidying, Knows, Meets, Set
 pub fn settling_survives_crashes()
     ensures records { (i : Image) (dir : Dir) (r : Records) (x : Volumes) (d o : Content) → ReadsAlike i dir r x d → IsOutcome d o
         → ArePartlyRewritten r (records_of i (volumes_in dir o)) }
+    ensures types { (i : Image) (dir : Dir) (r : Records) (x : Volumes) (d o : Content) (v : Id) → ReadsAlike i dir r x d → IsOutcome d o
+        → HasTypeOf r v (records_of i (volumes_in dir o) v) }
     ensures reading { (i : Image) (dir : Dir) (r : Records) (x : Volumes) (d o : Content) (v : Id) (vs : List Id) → ReadsAlike i dir r x d → IsOutcome d o
         → IsReading r v vs → (ws : List Id) × IsReading (records_of i (volumes_in dir o)) v ws }
     ensures flats { (i : Image) (dir : Dir) (r : Records) (x : Volumes) (d o : Content) (flats : Id → ℕ → List ℕ) → ReadsAlike i dir r x d → IsOutcome d o
