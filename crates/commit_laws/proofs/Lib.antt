@@ -1,0 +1,3 @@
+pub mod Alike
+pub mod Covers
+pub mod Pieces
