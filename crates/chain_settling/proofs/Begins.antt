@@ -34,6 +34,7 @@ use Rattle.volume_chain.specs.Chain.{records_kept}
 use Rattle.volume_chain.specs.Parts.{version_of as chain_version, with_records}
 use Rattle.volume_chain.specs.declared.chain.Chain.{Chain}
 use Rattle.chain_settling.specs.Alike.{HasTypeOf, IsOfImage, KnowsImage, ReadsAlike}
+use Rattle.chain_settling.specs.Reopening.{OpensAlike}
 use Rattle.chain_settling.specs.Was.{folder_in, image_kept}
 use Rattle.chain_settling.specs.Begun.{IsBegunText, IsEndTurn}
 use Rattle.chain_settling.specs.Fit.{AreValid, IsFit, StageTurn, chain_in}
@@ -204,6 +205,7 @@ text_begins c p i host v change xs w r x d k at is valid ids files same says her
     folder = k.image.folder;
     chains = k.image.chains;
     alike = k.image.alike;
+    opens = k.image.opens;
     partly = partly_same r (changed v (changed_to change) s) (records_in xs) same (changed_partly p c i v change r x d k.image k.done is);
     types = λ u. subst (HasTypeOf r u) (sym (same u)) (changed_types p c v change r x d k.image is u);
     kept = λ u y e. let z = was v (changed_to change) s u y (sym (same u) ∙ e) in k.image.kept u z.0 z.1;
@@ -251,15 +253,15 @@ pub id_at : (c : Chain) (i : ℕ) (v : Id) → IsIdAt c i v → slice_get (ids_o
 id_at c i v is = slice_get-map (λ (y : Volume). y.id) (records_kept c) i ∙ ap (λ (o : Option Volume). option_map (λ (y : Volume). y.id) o) is.1 ∙ ap (λ (u : Id). Some u) is.2
 
 nothing_done : (s : Stage) (host faults : ℕ) (r : Records) (x : Volumes) (turn : StageTurn) (d : Content) → MeetsAt (IsShown (folder_in (chain_in s)) d) s turn
-    → ReadsAlike (image_kept (chain_in s)) (folder_in (chain_in s)) r x d
+    → ReadsAlike (image_kept (chain_in s)) (folder_in (chain_in s)) r x d → OpensAlike (image_kept (chain_in s)) (folder_in (chain_in s)) r x d
     → MatchTurn turn (λ next. KnowsStage next host r x d) (λ c. IsSettledImage c host r x d) (λ _ refusal. refusal ≡ DiskFault faults) → Settles s host faults r x turn d d
-nothing_done s host faults r x turn d shows alike after = record { shows = shows; dirs = λ q. refl; others = λ q _. refl; kept = λ q _. refl; layers = λ b l _. no_step l (d.file (place_kept l)) (d.file (place_kept l)) refl; alike = alike; after = after }
+nothing_done s host faults r x turn d shows alike opens after = record { shows = shows; dirs = λ q. refl; others = λ q _. refl; kept = λ q _. refl; layers = λ b l _. no_step l (d.file (place_kept l)) (d.file (place_kept l)) refl; alike = alike; opens = opens; after = after }
 
 pub list_ends : (c : Chain) (p : Part) (i : ℕ) (turn : StageTurn) → length (records_kept c) ≤ i → IsEndTurn c p turn → (host faults : ℕ) (d : Content) → SettlesIn (Texts c p i) host faults turn d d
 list_ends c Parents i turn past is host faults d r x k =
-    subst (λ (t : StageTurn). Settles (Texts c Parents i) host faults r x t d d) (sym is) (nothing_done (Texts c Parents i) host faults r x (More (Texts c Types 0)) d tt k.image.alike (parents_end c i host r x d past k))
+    subst (λ (t : StageTurn). Settles (Texts c Parents i) host faults r x t d d) (sym is) (nothing_done (Texts c Parents i) host faults r x (More (Texts c Types 0)) d tt k.image.alike k.image.opens (parents_end c i host r x d past k))
 list_ends c Types i turn past is host faults d r x k =
-    subst (λ (t : StageTurn). Settles (Texts c Types i) host faults r x t d d) (sym is) (nothing_done (Texts c Types i) host faults r x (Done c) d tt k.image.alike (types_end c i host r x d past k))
+    subst (λ (t : StageTurn). Settles (Texts c Types i) host faults r x t d d) (sym is) (nothing_done (Texts c Types i) host faults r x (Done c) d tt k.image.alike k.image.opens (types_end c i host r x d past k))
 
 -- a volume of the list has a record
 pub record_of : (c : Chain) (i : ℕ) (v : Id) → IsIdAt c i v → (y : VolumeRecord) × (records_in (records_kept c) v ≡ Some y)
@@ -271,12 +273,12 @@ pub volume_stays : (c : Chain) (p : Part) (i : ℕ) (v : Id) → IsIdAt c i v �
     → SettlesIn (Texts c p i) host faults (More (Texts c p (i + 1))) d d
 volume_stays c p i v at none host faults d r x k =
     let there = record_of c i v at in
-    nothing_done (Texts c p i) host faults r x (More (Texts c p (i + 1))) d tt k.image.alike (text_stays c p i host v r x d k (id_at c i v at) none there.0 there.1)
+    nothing_done (Texts c p i) host faults r x (More (Texts c p (i + 1))) d tt k.image.alike k.image.opens (text_stays c p i host v r x d k (id_at c i v at) none there.0 there.1)
 
 pub volume_changes : (c : Chain) (p : Part) (i : ℕ) (v : Id) (change : Change) (s : Stage) → IsIdAt c i v → IsChange p (records_in (records_kept c)) v (Some change) → IsFit s → IsBegunText c p i v change s
     → (host faults : ℕ) (d : Content) → SettlesIn (Texts c p i) host faults (More s) d d
 volume_changes c p i v change s at is fit begun host faults d r x k =
     let valid : AreValid (with_records c begun.kept) = subst (λ (z : Stage). AreValid (chain_in z)) begun.stage fit.valid in
-    nothing_done (Texts c p i) host faults r x (More s) d tt k.image.alike
+    nothing_done (Texts c p i) host faults r x (More s) d tt k.image.alike k.image.opens
     (subst (λ (z : Stage). KnowsStage z host r x d) (sym begun.stage)
     (text_begins c p i host v change begun.kept begun.write r x d k (id_at c i v at) is valid begun.ids begun.files begun.records begun.says begun.is begun.file begun.volatile begun.version begun.begun))

@@ -11,7 +11,7 @@ use Rattle.sd_names.specs.declared.place.Place.{Place}
 use Rattle.sd_names.specs.declared.refusal.Refusal.TheVariants.{DiskFault}
 use Rattle.sd_names.specs.declared.turn.Turn.TheVariants.{More, Done, Ended}
 use Rattle.shared_disk.specs.Content.{Content, File}
-use Rattle.shared_disk.specs.Crash.{IsAlso, IsSettled, OnEach}
+use Rattle.shared_disk.specs.Crash.{IsAlso, IsFileOutcome, IsSettled, OnEach}
 use Rattle.shared_disk.specs.WellFormed.{IsWellFormed, IsWellFormedFile}
 use Rattle.shared_disk.proofs.AtPlace.{one_file}
 use Rattle.shared_disk.proofs.Toolkit.{grown_settled}
@@ -27,7 +27,7 @@ use Rattle.settling_steps.specs.declared.leftovers.Tidying.{Tidying}
 use Rattle.settling_steps.specs.declared.names.Temporary.{Temporary}
 use Rattle.settling_steps.specs.declared.names.Temporary.TheVariants.{New, Volatile}
 use Rattle.chain_model.specs.Folder.{Volumes}
-use Rattle.chain_model.specs.Growth.{MayGrow}
+use Rattle.chain_model.specs.Growth.{IsLonger, MayGrow}
 use Rattle.chain_model.specs.Records.{Records}
 use Rattle.chain_records.specs.Records.{records_in}
 use Rattle.chain_records.specs.Settling.{IsRewritten}
@@ -40,6 +40,7 @@ use Rattle.volume_chain.specs.declared.chain.Chain.{Chain}
 use Rattle.volume_chain.specs.declared.volumes.OpenVolume.{OpenVolume}
 use Rattle.volume_chain.specs.declared.volumes.OpenVolume.TheVariants.{Cow, Raw}
 use Rattle.chain_settling.specs.Alike.{HasTypeOf, HoldsAlike, KnowsImage, ReadsAlike}
+use Rattle.chain_settling.specs.Reopening.{OpensAlike}
 use Rattle.chain_settling.specs.Was.{file_in, folder_in, image_kept, text_in}
 use Rattle.chain_settling.specs.Fit.{StageTurn}
 use Rattle.chain_settling.specs.Knowing.{AreLongFrom, AreWholeTo, IsSettledImage, KnowsFiles, KnowsHeaders, KnowsLayers, KnowsLengthening, KnowsLengths, KnowsSettled, KnowsTexts, TellsUp}
@@ -52,6 +53,8 @@ use Rattle.chain_settling.specs.declared.stages.Part.TheVariants.{Parents}
 use Rattle.chain_settling.specs.declared.stages.Stage.TheVariants as stages
 use Rattle.chain_settling.proofs.Plans.{over_after}
 use Rattle.chain_settling.proofs.Alike.{AreKept, alike_kept, alone_kept, no_step, said_same, same_or_not}
+use Rattle.chain_settling.proofs.Kept.{at_place, files_kept, long_kept, settled_kept, whole_kept}
+use Rattle.chain_settling.proofs.OpensAlike.{names_longer, opens_but_one, opens_kept, sound_longer, text_names}
 
 -- ---- temporary names
 
@@ -62,41 +65,6 @@ text_not_temporary dir v (Volatile u) same = let h : name.Meta v ≡ name.MetaVo
 file_not_temporary : (dir : Dir) (v : Id) (o : Temporary) → file_in dir v ≡ temporary_in dir o → ⊥
 file_not_temporary dir v (New u) same = let h : name.Volume v ≡ name.MetaNew u = ap (λ (p : Place). p.name) same in absurd cc
 file_not_temporary dir v (Volatile u) same = let h : name.Volume v ≡ name.MetaVolatile u = ap (λ (p : Place). p.name) same in absurd cc
-
--- what is known of an image stays where its volumes' files and texts do
-pub image_kept_on : (c : Chain) (r : Records) (x : Volumes) (d e : Content) → e.dir (folder_in c) ≡ d.dir (folder_in c) → AreKept (folder_in c) d e → KnowsImage c r x d → KnowsImage c r x e
-image_kept_on c r x d e dir kept k = record {
-  folder = dir ∙ k.folder;
-  chains = k.chains;
-  alike = alike_kept (image_kept c) (folder_in c) r x d e kept k.alike;
-  partly = k.partly;
-  types = k.types;
-  kept = k.kept;
-  legible = k.legible;
-  cows = k.cows;
-  was = k.was;
-  alone = alone_kept c x d e (λ v off. kept.files v) k.alone;
-}
-
-pub settled_kept : (c : Chain) (host : ℕ) (l : Layer) (d e : Content) → e.file (place_kept l) ≡ d.file (place_kept l) → KnowsSettled c l host d → KnowsSettled c l host e
-settled_kept c host l d e same k = record { place = k.place; file = k.file; there = same ∙ k.there; knows = k.knows; settled = k.settled }
-
-pub long_kept : (host : ℕ) (l : Layer) (d e : Content) → e.file (place_kept l) ≡ d.file (place_kept l) → KnowsLong l host d → KnowsLong l host e
-long_kept host l d e same k = record { file = k.file; there = same ∙ k.there; knows = k.knows; room = k.room }
-
-pub whole_kept : (host : ℕ) (l : Layer) (d e : Content) → e.file (place_kept l) ≡ d.file (place_kept l) → IsWhole l host d → IsWhole l host e
-whole_kept host l d e same k = record { file = k.file; there = same ∙ k.there; knows = k.knows; whole = k.whole }
-
--- a layer's file is that of a volume of the image
-pub at_place : (c : Chain) (host : ℕ) (d e : Content) → KnowsLayers c host d → AreKept (folder_in c) d e → (b : ℕ) (l : Layer) → IsLayerAt c b l → e.file (place_kept l) ≡ d.file (place_kept l)
-at_place c host d e k kept b l is = subst (λ (p : Place). e.file p ≡ d.file p) (sym (k.each b l is).place) (kept.files (volume_kept l))
-
-pub files_kept : (c : Chain) (host : ℕ) (r : Records) (x : Volumes) (d e : Content) → e.dir (folder_in c) ≡ d.dir (folder_in c) → AreKept (folder_in c) d e → KnowsFiles c host r x d → KnowsFiles c host r x e
-files_kept c host r x d e dir kept k = record {
-  image = image_kept_on c r x d e dir kept k.image;
-  said = λ v. said_same (image_kept c) (folder_in c) v d e (kept.texts v) ∙ k.said v;
-  layers = record { each = λ b l is. settled_kept c host l d e (at_place c host d e k.layers kept b l is) (k.layers.each b l is); apart = k.layers.apart };
-}
 
 abbrev pub tidied_turn : Chain → TidyTurn → StageTurn
 tidied_turn c (More t) = More (stages.Tidying c t)
@@ -113,6 +81,7 @@ tidying_settles c t host faults turn d e formed leaves shows same r x k = record
   kept = λ q other. leaves.others q (λ o e. other.temporary o (e ∙ ap (λ (dir : Dir). temporary_in dir o) k.folder));
   layers = λ b l is. no_step l (d.file (place_kept l)) (e.file (place_kept l)) (at_place c host d e k.files.layers kept b l is);
   alike = alike_kept (image_kept c) (folder_in c) r x d e kept k.files.image.alike;
+  opens = opens_kept (image_kept c) (folder_in c) r x d e kept k.files.image.opens;
   after = go turn same (leaves.after k.names);
 }
   where
@@ -220,11 +189,21 @@ module _ (c : Chain) (at : ℕ) (m : Layer) (l : Lengthening) (host faults : ℕ
       file v (inl same) = subst (λ (w : Id). IsAlso (λ f g. OnEach g (HoldsAlike (r w) f)) (x.file w) (e.file (file_in dir w))) (sym same) file_here
       file v (inr other) = subst (λ (o : Option File). IsAlso (λ f g. OnEach g (HoldsAlike (r v) f)) (x.file v) o) (sym (file_same v other)) (k.files.image.alike.files v)
 
+  pub opens : OpensAlike (image_kept c) dir r x e
+  opens =
+      opens_but_one (image_kept c) dir r x d e (volume_kept m) known.file here.0 (ap (λ (p : Place). d.file p) (sym known.place) ∙ known.there) (ap (λ (p : Place). e.file p) (sym known.place) ∙ here.1) texts_same file_same
+      (λ t is each g out. let before = earlier g out in sound_longer (r (volume_kept m)) t before.0 g before.2 (each before.0 before.1))
+      (λ t is each g out. let before = earlier g out in names_longer r (volume_kept m) (text_names (image_kept c) dir d (volume_kept m)) t before.0 g before.2 (each before.0 before.1)) k.files.image.opens
+    where
+      earlier : (g : File) → IsFileOutcome here.0 g → (f : File) × IsFileOutcome known.file f × IsLonger f g
+      earlier g out = outcome_before known.file here.0 g (may_grow known.file here.0 known.settled (formed.files (place_kept m) known.file known.there) here.2) out
+
   image : KnowsImage c r x e
   image = record {
     folder = leaves.dirs dir ∙ k.files.image.folder;
     chains = k.files.image.chains;
     alike = alike;
+    opens = opens;
     partly = k.files.image.partly;
     types = k.files.image.types;
     kept = k.files.image.kept;
@@ -326,6 +305,7 @@ lengthening_settles c at l host faults turn d e formed formed_then each r x k = 
       kept = kept_others c at k.layer l host faults r x (More next) d e k.is formed k leaves;
       layers = each_step c at k.layer l host faults r x (More next) d e k.is formed k leaves;
       alike = alike c at k.layer l host faults r x (More next) d e k.is formed k leaves;
+      opens = opens c at k.layer l host faults r x (More next) d e k.is formed k leaves;
       after = goes_on c at k.layer l host faults r x (More next) d e k.is formed k leaves next (leaves.after k.here);
     }
     go (Done u) leaves = record {
@@ -335,6 +315,7 @@ lengthening_settles c at l host faults turn d e formed formed_then each r x k = 
       kept = kept_others c at k.layer l host faults r x (Done u) d e k.is formed k leaves;
       layers = each_step c at k.layer l host faults r x (Done u) d e k.is formed k leaves;
       alike = alike c at k.layer l host faults r x (Done u) d e k.is formed k leaves;
+      opens = opens c at k.layer l host faults r x (Done u) d e k.is formed k leaves;
       after = ends c at k.layer l host faults r x (Done u) d e k.is formed k leaves formed_then (leaves.after k.here);
     }
     go (Ended u refusal) leaves = record {
@@ -344,6 +325,7 @@ lengthening_settles c at l host faults turn d e formed formed_then each r x k = 
       kept = kept_others c at k.layer l host faults r x (Ended u refusal) d e k.is formed k leaves;
       layers = each_step c at k.layer l host faults r x (Ended u refusal) d e k.is formed k leaves;
       alike = alike c at k.layer l host faults r x (Ended u refusal) d e k.is formed k leaves;
+      opens = opens c at k.layer l host faults r x (Ended u refusal) d e k.is formed k leaves;
       after = leaves.after k.here;
     }
 
@@ -368,6 +350,7 @@ lengths_go_on c at host faults d (Raw length) is r x k = record {
   kept = λ q _. refl;
   layers = λ b l _. no_step l (d.file (place_kept l)) (d.file (place_kept l)) refl;
   alike = k.files.image.alike;
+  opens = k.files.image.opens;
   after = record {
     files = k.files;
     tidy = k.tidy;
@@ -387,6 +370,7 @@ lengths_go_on c at host faults d (Cow m) is r x k = record {
   kept = λ q _. refl;
   layers = λ b l _. no_step l (d.file (place_kept l)) (d.file (place_kept l)) refl;
   alike = k.files.image.alike;
+  opens = k.files.image.opens;
   after = record {
     files = k.files;
     tidy = k.tidy;
@@ -407,6 +391,7 @@ lengths_end c at host faults d none r x k = record {
   kept = λ q _. refl;
   layers = λ b l _. no_step l (d.file (place_kept l)) (d.file (place_kept l)) refl;
   alike = k.files.image.alike;
+  opens = k.files.image.opens;
   after = record { image = k.files.image; said = k.files.said; tidy = k.tidy; formed = k.formed; told = λ b l low is. absurd (omega (arith, low)); rest = record { layers = k.files.layers; whole = λ b n at_b. go b n at_b (cases_lt b at) } };
 }
   where
@@ -456,7 +441,7 @@ none_at c at is = go (slice_get (open_in c) at) refl is
 
 pub headers_turn : (c : Chain) (at : ℕ) (host faults : ℕ) (d : Content) (turn : StageTurn) → ((r : Records) (x : Volumes) → KnowsHeaders c at host r x d → MatchTurn turn (λ next. KnowsStage next host r x d) (λ z. IsSettledImage z host r x d) (λ _ refusal. refusal ≡ DiskFault faults))
     → (r : Records) (x : Volumes) → KnowsStage (stages.Headers c at) host r x d → Settles (stages.Headers c at) host faults r x turn d d
-headers_turn c at host faults d turn after r x k = record { shows = tt; dirs = λ q. refl; others = λ q _. refl; kept = λ q _. refl; layers = λ b l _. no_step l (d.file (place_kept l)) (d.file (place_kept l)) refl; alike = k.image.alike; after = after r x k }
+headers_turn c at host faults d turn after r x k = record { shows = tt; dirs = λ q. refl; others = λ q _. refl; kept = λ q _. refl; layers = λ b l _. no_step l (d.file (place_kept l)) (d.file (place_kept l)) refl; alike = k.image.alike; opens = k.image.opens; after = after r x k }
 
 pub headers_end : (c : Chain) (at host : ℕ) (r : Records) (x : Volumes) (d : Content) → kind_at c at ≡ kind.End → KnowsHeaders c at host r x d → KnowsTexts c Parents 0 host r x d
 headers_end c at host r x d end k = record {

@@ -49,14 +49,18 @@ use Rattle.volume_chain.specs.declared.chain.Target as chains
 use Rattle.volume_chain.specs.declared.volumes.OpenVolume.{OpenVolume}
 use Rattle.volume_chain.specs.declared.volumes.OpenVolume.TheVariants.{Cow, Raw}
 use Rattle.chain_settling.specs.Alike.{HasTypeOf, HoldsAlike, IsCow, IsCowOf, IsSaid, KnowsImage, ReadsAlike}
+use Rattle.chain_settling.specs.Reopening.{OpensAlike}
 use Rattle.chain_settling.specs.Was.{IsLeftAlone, IsOffLayers, WasLong, file_in, folder_in, image_kept, text_in}
 use Rattle.chain_settling.specs.Fit.{StageTurn}
-use Rattle.chain_settling.specs.Knowing.{IsHeadOf, KnowsHeaders, KnowsHeading, KnowsSettled, TellsUp}
+use Rattle.chain_settling.specs.Knowing.{IsAsNamed, IsHeadOf, KnowsHeaders, KnowsHeading, KnowsSettled, TellsUp}
 use Rattle.chain_settling.specs.Steps.{IsLayerStep, IsOther, KnowsStage, RebasesAt, Settles}
 use Rattle.chain_settling.specs.Work.{IsBackingFor, IsLayerAt}
 use Rattle.chain_settling.specs.declared.stages.Stage.TheVariants as stages
 use Rattle.chain_settling.proofs.Alike.{no_step, said_same, same_or_not}
-use Rattle.chain_settling.proofs.Grows.{file_not_text, files_apart, nat_cases, temporary_not_file, whole_kept}
+use Rattle.chain_settling.proofs.Grows.{file_not_text, files_apart, nat_cases, temporary_not_file}
+use Rattle.chain_settling.proofs.HeadNames.{IsHead}
+use Rattle.chain_settling.proofs.HeadOpens.{heading_opens, heads_after, named_before}
+use Rattle.chain_settling.proofs.Kept.{whole_kept}
 use Rattle.chain_settling.proofs.Plans.{over_before, over_one}
 use Rattle.chain_settling.proofs.Held.{held_alike}
 
@@ -122,7 +126,7 @@ next_holds m b (Some y) f g cow formed also was step k =
     (λ i. new.same i ∙ bytes_kept m b f g step i ∙ sym (old.same i)) k
 
 module _ (c : Chain) (at : ℕ) (h : Rebasing) (after : Layer) (host faults : ℕ) (r : Records) (x : Volumes) (turn : Turned Rebasing) (d e : Content) (formed : IsWellFormed e) (k : KnowsHeading c at h host r x d) (target : target_kept after ≡ target_kept k.layer)
-    (steps : heading.Steps h k.layer after host faults turn d e) where
+    (steps : heading.Steps h k.layer after host faults turn d e) (new : OnEach (steps.here k.file k.there k.knows).0 (IsHead k.layer (backing_of h))) where
   abbrev dir : Dir
   dir = folder_in c
 
@@ -170,6 +174,10 @@ module _ (c : Chain) (at : ℕ) (h : Rebasing) (after : Layer) (host faults : �
       file : (u : Id) → (u ≡ volume_kept k.layer) ⊎ (u ≢ volume_kept k.layer) → IsAlso (λ f g. OnEach g (HoldsAlike (r u) f)) (x.file u) (e.file (file_in dir u))
       file u (inl same) = subst (λ (w : Id). IsAlso (λ f g. OnEach g (HoldsAlike (r w) f)) (x.file w) (e.file (file_in dir w))) (sym same) file_here
       file u (inr other) = subst (λ (o : Option File). IsAlso (λ f g. OnEach g (HoldsAlike (r u) f)) (x.file u) o) (sym (file_same u other)) (k.image.alike.files u)
+
+  pub opens : OpensAlike (image_kept c) dir r x e
+  unfolding here
+  opens = heading_opens c at h host r x d e k here.0 here.1 new texts_same file_same
 
   pub outside : (q : Place) → q.dir ≢ dir → e.file q ≡ d.file q
   outside q other = elsewhere q (λ same. other (ap (λ (z : Place). z.dir) (same ∙ k.place)))
@@ -225,6 +233,7 @@ module _ (c : Chain) (at : ℕ) (h : Rebasing) (after : Layer) (host faults : �
     folder = steps.dirs dir ∙ k.image.folder;
     chains = k.image.chains;
     alike = alike;
+    opens = opens;
     partly = k.image.partly;
     types = k.image.types;
     kept = k.image.kept;
@@ -315,6 +324,7 @@ module _ (c : Chain) (at : ℕ) (h : Rebasing) (after : Layer) (host faults : �
     heads = subst (λ (b : Backing). OnEach here.0 (IsHeadOf after b)) (sym same) (subst (λ (z : Layer). OnEach here.0 (IsHeadOf z (backing_of h))) (sym stays) heads);
     cow = cow_here after refl;
     over = subst (λ (b : Backing). IsOver r (volume_kept after) b.parent) (sym same) (subst (λ (u : Id). IsOver r u (backing_of h).parent) (sym volume) k.over);
+    named = subst (λ (z : Layer). IsAsNamed next r x z) (sym stays) (record { text = k.named.text; header = k.named.header });
     told = λ b l low is. k.told b l low (at_other b l (λ one. omega (arith, low, one)) is);
     others = others;
     wholes = wholes;
@@ -369,42 +379,51 @@ pub heading_settles : (c next : Chain) (at : ℕ) (h : Rebasing) (host faults : 
 heading_settles c next at h host faults turn d e formed same rebases r x k = go turn same (rebases k.layer k.is)
   where
     go : (turn : Turned Rebasing) → MatchTurn turn (IsSameRebasing h) (λ _. Unit {0}) (λ _ _. Unit {0})
-        → (after : Layer) × (next ≡ with_open c at (Cow after)) × KeepsLayer h k.layer after turn × heading.Steps h k.layer after host faults turn d e
+        → (after : Layer) × (next ≡ with_open c at (Cow after)) × KeepsLayer h k.layer after turn × heading.Steps h k.layer after host faults turn d e × heading.CallOf h k.layer host faults turn d e
         → Settles (stages.Heading c at h) host faults r x (headed_turn next at turn) d e
     go (More more) same is =
         let target = target_after h k.layer is.0 (More more) is.2 in
-        let found = here c at h is.0 host faults r x (More more) d e formed k target is.3 in
+        let left = is.3.here k.file k.there k.knows in
+        let new = heads_after h k.layer is.0 host faults (More more) d e k.file left.0 k.there left.1 k.knows same is.2 is.4 left.2 in
+        let found = here c at h is.0 host faults r x (More more) d e formed k target is.3 new in
         record {
           shows = tt;
           dirs = is.3.dirs;
-          others = outside c at h is.0 host faults r x (More more) d e formed k target is.3;
-          kept = kept_others c at h is.0 host faults r x (More more) d e formed k target is.3;
-          layers = each_step c at h is.0 host faults r x (More more) d e formed k target is.3;
-          alike = alike c at h is.0 host faults r x (More more) d e formed k target is.3;
-          after = subst (λ (z : Chain). KnowsHeading z at more host r x e) (sym is.1) (goes_on c at h is.0 host faults r x (More more) d e formed k target is.3 more same is.2 found.2.next);
+          others = outside c at h is.0 host faults r x (More more) d e formed k target is.3 new;
+          kept = kept_others c at h is.0 host faults r x (More more) d e formed k target is.3 new;
+          layers = each_step c at h is.0 host faults r x (More more) d e formed k target is.3 new;
+          alike = alike c at h is.0 host faults r x (More more) d e formed k target is.3 new;
+          opens = opens c at h is.0 host faults r x (More more) d e formed k target is.3 new;
+          after = subst (λ (z : Chain). KnowsHeading z at more host r x e) (sym is.1) (goes_on c at h is.0 host faults r x (More more) d e formed k target is.3 new more same is.2 found.2.next);
         }
     go (Done u) same is =
         let target = target_after h k.layer is.0 (Done u) is.2 in
-        let found = here c at h is.0 host faults r x (Done u) d e formed k target is.3 in
+        let left = is.3.here k.file k.there k.knows in
+        let new = heads_after h k.layer is.0 host faults (Done u) d e k.file left.0 k.there left.1 k.knows same is.2 is.4 left.2 in
+        let found = here c at h is.0 host faults r x (Done u) d e formed k target is.3 new in
         record {
           shows = tt;
           dirs = is.3.dirs;
-          others = outside c at h is.0 host faults r x (Done u) d e formed k target is.3;
-          kept = kept_others c at h is.0 host faults r x (Done u) d e formed k target is.3;
-          layers = each_step c at h is.0 host faults r x (Done u) d e formed k target is.3;
-          alike = alike c at h is.0 host faults r x (Done u) d e formed k target is.3;
-          after = subst (λ (z : Chain). KnowsHeaders z (at + 1) host r x e) (sym is.1) (ends c at h is.0 host faults r x (Done u) d e formed k target is.3 found.2.next.0 found.2.next.1 is.2.parent_is);
+          others = outside c at h is.0 host faults r x (Done u) d e formed k target is.3 new;
+          kept = kept_others c at h is.0 host faults r x (Done u) d e formed k target is.3 new;
+          layers = each_step c at h is.0 host faults r x (Done u) d e formed k target is.3 new;
+          alike = alike c at h is.0 host faults r x (Done u) d e formed k target is.3 new;
+          opens = opens c at h is.0 host faults r x (Done u) d e formed k target is.3 new;
+          after = subst (λ (z : Chain). KnowsHeaders z (at + 1) host r x e) (sym is.1) (ends c at h is.0 host faults r x (Done u) d e formed k target is.3 new found.2.next.0 found.2.next.1 is.2.parent_is);
         }
     go (Ended u refusal) same is =
         let target = target_after h k.layer is.0 (Ended u refusal) is.2 in
-        let found = here c at h is.0 host faults r x (Ended u refusal) d e formed k target is.3 in
+        let left = is.3.here k.file k.there k.knows in
+        let new = heads_after h k.layer is.0 host faults (Ended u refusal) d e k.file left.0 k.there left.1 k.knows same is.2 is.4 left.2 in
+        let found = here c at h is.0 host faults r x (Ended u refusal) d e formed k target is.3 new in
         record {
           shows = tt;
           dirs = is.3.dirs;
-          others = outside c at h is.0 host faults r x (Ended u refusal) d e formed k target is.3;
-          kept = kept_others c at h is.0 host faults r x (Ended u refusal) d e formed k target is.3;
-          layers = each_step c at h is.0 host faults r x (Ended u refusal) d e formed k target is.3;
-          alike = alike c at h is.0 host faults r x (Ended u refusal) d e formed k target is.3;
+          others = outside c at h is.0 host faults r x (Ended u refusal) d e formed k target is.3 new;
+          kept = kept_others c at h is.0 host faults r x (Ended u refusal) d e formed k target is.3 new;
+          layers = each_step c at h is.0 host faults r x (Ended u refusal) d e formed k target is.3 new;
+          alike = alike c at h is.0 host faults r x (Ended u refusal) d e formed k target is.3 new;
+          opens = opens c at h is.0 host faults r x (Ended u refusal) d e formed k target is.3 new;
           after = found.2.next.0;
         }
 
@@ -425,6 +444,7 @@ heading_begins c at h host r x d m b is names begun by k = record {
   heads = λ g out. inl (ap (λ (z : File). layer_header (on_medium z) (capacity_kept m)) (settled_file known.file g known.settled out) ∙ head);
   cow = k.image.cows at m is;
   over = subst (λ (z : Backing). IsOver r (volume_kept m) z.parent) (sym by) (over_before r (records_in (records_kept c)) (volume_kept m) b.parent (k.image.chains (volume_kept m)) k.image.partly names.0);
+  named = named_before c at host r x d m b is names k;
   told = k.told;
   others = λ b l other at_b. k.rest.layers.each b l at_b;
   wholes = λ b l other at_b. k.rest.whole b l at_b;
@@ -451,11 +471,13 @@ set_twice {A = A} (y ∷ ys) (suc i) v w = ap (λ (zs : List A). y ∷ zs) (set_
 -- a layer that was taken out, changed and put back
 pub rebased_at : (c taken next : Chain) (at : ℕ) (h : Rebasing) (l m after : Layer) (host faults : ℕ) (turn : Turned Rebasing) (d e : Content) → IsLayerAt c at l → IsLayerAt c at m
     → taken ≡ with_open c at (Raw 0) → next ≡ with_open taken at (Cow after) → KeepsLayer h l after turn → heading.Steps h l after host faults turn d e
-    → (z : Layer) × (next ≡ with_open c at (Cow z)) × KeepsLayer h m z turn × heading.Steps h m z host faults turn d e
-rebased_at c taken next at h l m after host faults turn d e is_l is_m took put keeps steps =
+    → (then : Content) → then ≡ e → heading.CallOf h l host faults turn d then
+    → (z : Layer) × (next ≡ with_open c at (Cow z)) × KeepsLayer h m z turn × heading.Steps h m z host faults turn d e × heading.CallOf h m host faults turn d e
+rebased_at c taken next at h l m after host faults turn d e is_l is_m took put keeps steps then one call =
     let same : l ≡ m = let e : Some (Cow l) ≡ Some (Cow m) = sym is_l ∙ is_m in cc in (
       after,
       put ∙ ap (λ (z : Chain). with_open z at (Cow after)) took ∙ ap (λ (os : List OpenVolume). with_volumes c os) (set_twice (open_in c) at (Raw 0) (Cow after)),
       subst (λ (z : Layer). KeepsLayer h z after turn) same keeps,
       subst (λ (z : Layer). heading.Steps h z after host faults turn d e) same steps,
+      subst (λ (z : Layer). heading.CallOf h z host faults turn d e) same (subst (λ (f : Content). heading.CallOf h l host faults turn d f) one call),
     )

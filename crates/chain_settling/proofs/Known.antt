@@ -83,7 +83,7 @@ same_volume (x ∷ xs) (z ∷ zs) ids files y h = go (cons_cases z y zs h) (λ m
         let w = later more in
         (w.0, contains_more x w.0 xs w.1, w.2, w.3)
 
-also_there : (R : File → File → Type 0) (a b : Option File) → IsAlso R a b → is_some b ≡ is_some a
+pub also_there : (R : File → File → Type 0) (a b : Option File) → IsAlso R a b → is_some b ≡ is_some a
 also_there R None None also = refl
 also_there R None (Some g) also = absurd also
 also_there R (Some f) None also = absurd also

@@ -48,6 +48,7 @@ use Rattle.chain_settling.specs.Was.{IsLeftAlone, WasLong, file_in, folder_in, i
 use Rattle.chain_settling.specs.Knowing.{HaveRoom, KnowsSettled, KnowsTidying}
 use Rattle.chain_settling.specs.Work.{IsLayerAt}
 use Rattle.chain_settling.proofs.Alike.{says_by}
+use Rattle.chain_settling.proofs.OpensAlike.{opens_itself}
 
 -- ---- an image reads as itself
 
@@ -166,7 +167,7 @@ layer_at c l b each is = go (on_path (λ v o. IsOpenAs (target_of c) v (records_
     go : (v : Id) × (slice_get (path_in c) b ≡ Some v) × IsOpenAs (target_of c) v (records_in (records_kept c) v) (Cow l) → LayerAt c l b
     go a = by a.0 a.1 (records_in (records_kept c) a.0) refl a.2
 
-legal_record : (o : Option VolumeRecord) → holds_in legal_in o ≡ true → (y : VolumeRecord) × (o ≡ Some y)
+pub legal_record : (o : Option VolumeRecord) → holds_in legal_in o ≡ true → (y : VolumeRecord) × (o ≡ Some y)
 legal_record None e = absurd (false≢true e)
 legal_record (Some y) e = (y, refl)
 
@@ -209,6 +210,7 @@ module _ (c : Chain) (host : ℕ) (d : Content) (is_open : IsOpen c host d) (for
     folder = folder;
     chains = λ v. subst (λ (s : Records). HasChain s v) (sym same) (has_chain (records_kept c) v is_open.knows.shape.checked);
     alike = itself (image_kept c) (folder_in c) d is_open.settled;
+    opens = opens_itself (image_kept c) (folder_in c) d is_open.settled;
     partly = λ v. inl (sym (said v));
     types = λ v x y was now. inl (ap (λ (z : VolumeRecord). z.voltype) (same_Some y x (sym now ∙ sym (said v) ∙ was)));
     kept = λ v y e. let text = from_text (image_kept c) (d.file (text_in (folder_in c) v)) y (said v ∙ e) in (text.0, text.1);

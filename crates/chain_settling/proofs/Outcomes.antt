@@ -20,7 +20,7 @@ use Rattle.chain_settling.specs.Alike.{HasTypeOf, HoldsAlike, ReadsAlike}
 use Rattle.chain_settling.specs.Was.{file_in, text_in}
 use Rattle.chain_settling.proofs.Alike.{said_same}
 
-text_on : (i : Image) (dir : Dir) (r : Records) (x : Volumes) (d o : Content) → ReadsAlike i dir r x d → IsOutcome d o → (v : Id) → o.file (text_in dir v) ≡ d.file (text_in dir v)
+pub text_on : (i : Image) (dir : Dir) (r : Records) (x : Volumes) (d o : Content) → ReadsAlike i dir r x d → IsOutcome d o → (v : Id) → o.file (text_in dir v) ≡ d.file (text_in dir v)
 text_on i dir r x d o a out v = go (x.text v) (d.file (text_in dir v)) refl (a.texts v)
   where
     go : (t f : Option File) → d.file (text_in dir v) ≡ f → IsAlso (λ f g. IsSettled g) t f → o.file (text_in dir v) ≡ d.file (text_in dir v)

@@ -50,7 +50,8 @@ use Rattle.chain_settling.specs.declared.stages.Stage.{Stage}
 use Rattle.chain_settling.specs.declared.stages.Stage.TheVariants.{Tidying, Lengths, Headers, Heading, Texts, Writing}
 use Rattle.chain_settling.specs.declared.stages.Stage.TheVariants as stages
 use Rattle.chain_settling.proofs.Alike.{AreKept, said_same}
-use Rattle.chain_settling.proofs.Grows.{at_place, files_kept, image_kept_on, long_kept, nat_cases, settled_kept, whole_kept}
+use Rattle.chain_settling.proofs.Grows.{nat_cases}
+use Rattle.chain_settling.proofs.Kept.{at_place, files_kept, image_kept_on, long_kept, settled_kept, whole_kept}
 use Rattle.chain_settling.proofs.Known.{find_layer}
 use Rattle.chain_settling.proofs.Writes.{rest_kept}
 
@@ -110,6 +111,7 @@ heading_on c at h host r x d e on k = record {
   heads = k.heads;
   cow = k.cow;
   over = k.over;
+  named = k.named;
   told = k.told;
   others = λ b l other is. settled_kept c host l d e (same b l other is) (k.others b l other is);
   wholes = λ b l other is. whole_kept host l d e (same b l other is) (k.wholes b l other is);

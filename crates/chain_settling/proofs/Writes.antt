@@ -33,6 +33,7 @@ use Rattle.chain_records.specs.declared.volume.Volume.{Volume}
 use Rattle.volume_chain.specs.Chain.{records_kept}
 use Rattle.volume_chain.specs.declared.chain.Chain.{Chain}
 use Rattle.chain_settling.specs.Alike.{AreSaidBut, HasTypeOf, IsSaid, KnowsImage, ReadsAlike}
+use Rattle.chain_settling.specs.Reopening.{OpensAlike}
 use Rattle.chain_settling.specs.Was.{file_in, folder_in, image_kept, text_in}
 use Rattle.chain_settling.specs.Fit.{StageTurn}
 use Rattle.chain_settling.specs.Knowing.{KnowsRest, KnowsSettled, KnowsTexts, KnowsWriting}
@@ -40,6 +41,8 @@ use Rattle.chain_settling.specs.Steps.{IsLayerStep, IsOther, KnowsStage, Settles
 use Rattle.chain_settling.specs.Work.{IsLayerAt, record_at}
 use Rattle.chain_settling.specs.declared.stages.Part.{Part}
 use Rattle.chain_settling.specs.declared.stages.Stage.TheVariants.{Texts, Writing}
+use Rattle.chain_settling.proofs.OpensAlike.{opens_kept}
+use Rattle.chain_settling.proofs.UpNames.{opens_written}
 use Rattle.chain_settling.proofs.Alike.{IsWritten, alike_kept, alike_written, alone_kept, no_step, said_record, said_same, same_or_not}
 
 -- ---- what is known of layers stays where their files do
@@ -137,24 +140,38 @@ module _ (c : Chain) (p : Part) (i : ℕ) (w : TextWrite) (host faults : ℕ) (r
   is_typed : HasTypeOf r k.volume (Some k.says)
   is_typed = subst (HasTypeOf r k.volume) k.is (k.image.types k.volume)
 
+  -- no text has changed
+  text_kept : e.file (file_of w) ≡ d.file (file_of w) → (u : Id) → e.file (text_in dir u) ≡ d.file (text_in dir u)
+  text_kept same u = at (same_or_not u k.volume)
+    where
+      at : (u ≡ k.volume) ⊎ (u ≢ k.volume) → e.file (text_in dir u) ≡ d.file (text_in dir u)
+      at (inl here) = subst (λ (v : Id). e.file (text_in dir v) ≡ d.file (text_in dir v)) (sym here) (subst (λ (q : Place). e.file q ≡ d.file q) k.file same)
+      at (inr other) = texts_same u other
+
   pub alike : ReadsAlike (image_kept c) dir r x e
   alike = go (steps.text (k.image.legible k.volume k.says k.is).legible)
     where
       go : (e.file (file_of w) ≡ d.file (file_of w)) ⊎ HasRecord (write_version w) (file_of w) k.says e → ReadsAlike (image_kept c) dir r x e
-      go (inl same) = alike_kept (image_kept c) dir r x d e (record { texts = λ u. at u (same_or_not u k.volume); files = files_same }) k.image.alike
-        where
-          at : (u : Id) → (u ≡ k.volume) ⊎ (u ≢ k.volume) → e.file (text_in dir u) ≡ d.file (text_in dir u)
-          at u (inl here) = subst (λ (v : Id). e.file (text_in dir v) ≡ d.file (text_in dir v)) (sym here) (subst (λ (q : Place). e.file q ≡ d.file q) k.file same)
-          at u (inr other) = texts_same u other
+      go (inl same) = alike_kept (image_kept c) dir r x d e (record { texts = text_kept same; files = files_same }) k.image.alike
       go (inr has) =
           let text = k.image.kept k.volume k.says k.is in
           alike_written (image_kept c) dir r x k.volume k.says d e (k.image.legible k.volume k.says k.is) text.0 text.1 is_partly is_typed (written has) k.image.alike
+
+  pub opens : OpensAlike (image_kept c) dir r x e
+  opens = go (steps.text (k.image.legible k.volume k.says k.is).legible)
+    where
+      go : (e.file (file_of w) ≡ d.file (file_of w)) ⊎ HasRecord (write_version w) (file_of w) k.says e → OpensAlike (image_kept c) dir r x e
+      go (inl same) = opens_kept (image_kept c) dir r x d e (record { texts = text_kept same; files = files_same }) k.image.opens
+      go (inr has) =
+          opens_written c r x host d e k.volume k.says k.image k.rest k.told
+          (said_record (image_kept c) dir k.volume k.says e (k.image.legible k.volume k.says k.is) (has_here has)) is_partly texts_same files_same
 
   image : KnowsImage c r x e
   image = record {
     folder = steps.apart.dirs dir ∙ k.image.folder;
     chains = k.image.chains;
     alike = alike;
+    opens = opens;
     partly = k.image.partly;
     types = k.image.types;
     kept = k.image.kept;
@@ -230,6 +247,7 @@ writing_settles c p i w host faults turn d e same writes r x k = go turn same (w
       kept = kept_others c p i w host faults r x (More next) d e k steps;
       layers = each_step c p i w host faults r x (More next) d e k steps;
       alike = alike c p i w host faults r x (More next) d e k steps;
+      opens = opens c p i w host faults r x (More next) d e k steps;
       after = goes_on c p i w host faults r x (More next) d e k steps next same steps.after;
     }
     go (Done u) same steps = record {
@@ -239,6 +257,7 @@ writing_settles c p i w host faults turn d e same writes r x k = go turn same (w
       kept = kept_others c p i w host faults r x (Done u) d e k steps;
       layers = each_step c p i w host faults r x (Done u) d e k steps;
       alike = alike c p i w host faults r x (Done u) d e k steps;
+      opens = opens c p i w host faults r x (Done u) d e k steps;
       after = ends c p i w host faults r x (Done u) d e k steps (steps.after.0 (k.image.legible k.volume k.says k.is).legible) steps.after.1;
     }
     go (Ended u refusal) same steps = record {
@@ -248,5 +267,6 @@ writing_settles c p i w host faults turn d e same writes r x k = go turn same (w
       kept = kept_others c p i w host faults r x (Ended u refusal) d e k steps;
       layers = each_step c p i w host faults r x (Ended u refusal) d e k steps;
       alike = alike c p i w host faults r x (Ended u refusal) d e k steps;
+      opens = opens c p i w host faults r x (Ended u refusal) d e k steps;
       after = steps.after.0;
     }

@@ -19,6 +19,7 @@ use Rattle.chain_records.specs.Records.{records_in}
 use Rattle.chain_records.specs.Settling.{ArePartlyRewritten}
 use Rattle.volume_chain.specs.Chain.{records_kept}
 use Rattle.volume_chain.specs.declared.chain.Chain.{Chain}
+use Rattle.chain_settling.specs.Reopening.{OpensAlike}
 use Rattle.chain_settling.specs.Was.{AreLeftAlone, WasOpen, file_in, folder_in, image_kept, text_in}
 use Rattle.chain_settling.specs.Work.{IsLayerAt, IsRightType}
 
@@ -52,13 +53,14 @@ pub record IsOfImage (i : Image) (y : VolumeRecord) : Type 0 where
   pub id : y.image ≡ i.id
   pub legible : IsLegible y
 
--- What is known of an image in each stage: it reads alike, and the records that are kept are its old ones, partly rewritten,
+-- What is known of an image in each stage: it reads and opens alike, and the records that are kept are its old ones, partly rewritten,
 -- each of which had its text. The layers of the path are those of records of their capacities, and the files of other volumes
 -- are left alone.
 pub record KnowsImage (c : Chain) (r : Records) (x : Volumes) (d : Content) : Type 0 where
   pub folder : d.dir (folder_in c) ≡ true
   pub chains : (v : Id) → HasChain r v
   pub alike : ReadsAlike (image_kept c) (folder_in c) r x d
+  pub opens : OpensAlike (image_kept c) (folder_in c) r x d
   pub partly : ArePartlyRewritten r (records_in (records_kept c))
   pub types : (v : Id) → HasTypeOf r v (records_in (records_kept c) v)
   pub kept : (v : Id) (y : VolumeRecord) → records_in (records_kept c) v ≡ Some y → (f : File) × (x.text v ≡ Some f)

@@ -26,13 +26,14 @@ use Rattle.settling_steps.specs.declared.names.Temporary.{Temporary}
 use Rattle.volume_texts.specs.Write as text
 use Rattle.volume_texts.specs.declared.write.TextWrite.{TextWrite}
 use Rattle.chain_model.specs.Folder.{Volumes}
-use Rattle.chain_model.specs.Records.{Records}
+use Rattle.chain_model.specs.Records.{Records, parent}
 use Rattle.chain_records.specs.Records.{ids_of, records_in}
 use Rattle.chain_records.specs.Settling.{AreRewritten, HasPassedParent, IsOver, IsRewritten}
 use Rattle.volume_chain.specs.Chain.{records_kept}
 use Rattle.volume_chain.specs.Parts.{version_of}
 use Rattle.volume_chain.specs.declared.chain.Chain.{Chain}
 use Rattle.chain_settling.specs.Alike.{AreSaid, AreSaidBut, IsCow, KnowsImage}
+use Rattle.chain_settling.specs.Reopening.{named_in}
 use Rattle.chain_settling.specs.Was.{file_in, folder_in}
 use Rattle.chain_settling.specs.Work.{IsLayerAt, IsRightType}
 use Rattle.chain_settling.specs.declared.stages.Part.{Part}
@@ -178,6 +179,11 @@ abbrev pub IsHeadOf : Layer → Backing → File → Type 0
 IsHeadOf m b f =
     (layer_header (on_medium f) (capacity_kept m) ≡ Ok (header_kept m)) ⊎ (layer_header (on_medium f) (capacity_kept m) ≡ Ok (rebased (header_kept m) b))
 
+-- The text and the header of the layer's volume name what they named as the settling began.
+pub record IsAsNamed (c : Chain) (r : Records) (x : Volumes) (l : Layer) : Type 0 where
+  pub text : parent (records_in (records_kept c)) (volume_kept l) ≡ parent r (volume_kept l)
+  pub header : (f : File) → x.file (volume_kept l) ≡ Some f → named_in (r (volume_kept l)) f ≡ parent_kept l
+
 -- While the header of one layer is rewritten, that layer's file is known as the rebasing knows it, and all others are as before.
 pub record KnowsHeading (c : Chain) (at : ℕ) (h : Rebasing) (host : ℕ) (r : Records) (x : Volumes) (d : Content) : Type 0 where
   pub image : KnowsImage c r x d
@@ -193,6 +199,7 @@ pub record KnowsHeading (c : Chain) (at : ℕ) (h : Rebasing) (host : ℕ) (r : 
   pub heads : OnEach file (IsHeadOf layer (heading.backing_of h))
   pub cow : IsCow layer (r (volume_kept layer))
   pub over : IsOver r (volume_kept layer) (heading.backing_of h).parent
+  pub named : IsAsNamed c r x layer
   pub told : AreToldTo c r at
   pub others : (b : ℕ) (l : Layer) → b ≢ at → IsLayerAt c b l → KnowsSettled c l host d
   pub wholes : (b : ℕ) (l : Layer) → b ≢ at → IsLayerAt c b l → IsWhole l host d

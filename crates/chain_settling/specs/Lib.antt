@@ -3,6 +3,7 @@ pub mod Fit
 pub mod Left
 pub mod Settling
 pub mod Was
+pub mod Reopening
 pub mod Alike
 pub mod Knowing
 pub mod Steps

@@ -27,6 +27,7 @@ use Rattle.volume_chain.specs.Parts.{with_open}
 use Rattle.volume_chain.specs.declared.chain.Chain.{Chain}
 use Rattle.volume_chain.specs.declared.volumes.OpenVolume.TheVariants.{Cow}
 use Rattle.chain_settling.specs.Alike.{ReadsAlike}
+use Rattle.chain_settling.specs.Reopening.{OpensAlike}
 use Rattle.chain_settling.specs.Was.{folder_in, image_kept, text_in}
 use Rattle.chain_settling.specs.Fit.{StageTurn, chain_in}
 use Rattle.chain_settling.specs.Left.{MeetsAt}
@@ -58,7 +59,7 @@ abbrev pub IsLayerStep : Layer → File → File → Type 0
 IsLayerStep l f g = IsGrownFile f g ⊎ ((g.size ≡ f.size) × (b : Backing) × ComesBy (IsOldOrOver (header_kept l) b (capacity_kept l)) f g)
 
 -- The name that a step lists is in the folder. No folder is changed, and no file but texts, temporary texts and the files of the path's layers, all in the image's folder;
--- and the image reads alike on each outcome. A refusal is the disk's fault.
+-- and the image reads alike on each outcome, and opens alike. A refusal is the disk's fault.
 pub record Settles (s : Stage) (host faults : ℕ) (r : Records) (x : Volumes) (turn : StageTurn) (d e : Content) : Type 0 where
   pub shows : MeetsAt (IsShown (folder_in (chain_in s)) d) s turn
   pub dirs : (q : Dir) → e.dir q ≡ d.dir q
@@ -66,6 +67,7 @@ pub record Settles (s : Stage) (host faults : ℕ) (r : Records) (x : Volumes) (
   pub kept : (q : Place) → IsOther (chain_in s) q → e.file q ≡ d.file q
   pub layers : (b : ℕ) (l : Layer) → IsLayerAt (chain_in s) b l → IsAlso (IsLayerStep l) (d.file (place_kept l)) (e.file (place_kept l))
   pub alike : ReadsAlike (image_kept (chain_in s)) (folder_in (chain_in s)) r x e
+  pub opens : OpensAlike (image_kept (chain_in s)) (folder_in (chain_in s)) r x e
   pub after : MatchTurn turn
       (λ next. KnowsStage next host r x e)
       (λ c. IsSettledImage c host r x e)
@@ -81,4 +83,4 @@ LengthensAt c at l host faults turn d e = (m : Layer) → IsLayerAt c at m → L
 -- What a step of the rewriting of the header at a place of the path leaves: the layer there is the changed one.
 abbrev pub RebasesAt : Chain → Chain → ℕ → Rebasing → ℕ → ℕ → Turned Rebasing → Content → Content → Type 0
 RebasesAt c next at h host faults turn d e = (m : Layer) → IsLayerAt c at m
-    → (after : Layer) × (next ≡ with_open c at (Cow after)) × KeepsLayer h m after turn × heading.Steps h m after host faults turn d e
+    → (after : Layer) × (next ≡ with_open c at (Cow after)) × KeepsLayer h m after turn × heading.Steps h m after host faults turn d e × heading.CallOf h m host faults turn d e

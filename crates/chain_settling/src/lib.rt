@@ -5,6 +5,7 @@
 mod headers;
 mod laws;
 mod lengths;
+mod reopening;
 mod settling;
 mod stages;
 mod texts;
@@ -13,4 +14,5 @@ pub use laws::{
     known_settlings_stay_known, open_chains_are_known, settled_chains_are_known,
     settling_survives_crashes, settlings_are_short,
 };
+pub use reopening::{cut_settlings_open_again, settled_chains_are_open};
 pub use settling::Settling;
