@@ -1,0 +1,4 @@
+pub mod Placed
+pub mod Taking
+pub mod Preparing
+pub mod Filled
