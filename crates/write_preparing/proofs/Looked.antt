@@ -12,7 +12,6 @@ use Rattle.shared_disk.specs.declared.disk.DiskAnswer.{DiskAnswer}
 use Rattle.shared_disk.specs.declared.disk.DiskAnswer.TheVariants.{NoFile, Exists, OutOfFile, NotEmpty, Failed}
 use Rattle.shared_disk.proofs.AtPlace.{no_file}
 use Rattle.volume_meta.specs.declared.record.VolumeRecord.{VolumeRecord}
-use Rattle.image_model.specs.File.{file_of}
 use Rattle.image_model.specs.Room.{Need, room_of}
 use Rattle.layer_laws.specs.Laws.{layer}
 use Rattle.qcow_layer.specs.Looking.{IsFault}
@@ -48,6 +47,7 @@ use Rattle.write_preparing.specs.Preparing.{AsksNext, HasRoom, IsOf, KnowsAsking
 use Rattle.write_preparing.specs.declared.stage.Stage.{Stage}
 use Rattle.write_preparing.specs.declared.stage.Stage.TheVariants.{Surveying, Asking, Clearing, Placing, InPlace}
 use Rattle.write_preparing.specs.declared.stage.Wanting.{Wanting}
+use Rattle.write_preparing.proofs.Room.{seen_size}
 
 -- a fault of the disk has the count after it
 pub fault_is : (before after : ℕ) (refusal : Refusal) → IsFault refusal → IsRisen before after refusal → refusal ≡ DiskFault after
@@ -138,10 +138,6 @@ module _ (s : Survey) (w : Layer) (l : Laying) (x : VolumeRecord) (host faults :
       (fault_is before faults refusal (call.after f.size (seen host f) seen_is k.quiet.writer.knows.fits k.quiet.writer.knows.numbers k.looks) risen)
 
 -- ---- the asking
-
-seen_size : (host : ℕ) (f : File) → (as_seen host f).size ≡ 512 * f.size
-unfolding file_of
-seen_size host f = refl
 
 module _ (a : Wanting) (w : Layer) (l : Laying) (x : VolumeRecord) (host faults : ℕ) (f : File) (d e : Content) (there : d.file w.target.place ≡ Some f) (k : KnowsAsking a.plan w l x host f) where
   abbrev p : WritePlan

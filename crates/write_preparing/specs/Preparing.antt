@@ -1,5 +1,5 @@
 -- The preparing of a write to a layer: what is known between its steps, and what each step leaves.
-use Rattle.std.specs.Prelude.{◌≡◌, ◌⊎◌, ℕ, ◌+◌, ◌*◌, ◌<◌, List, [], length, Some}
+use Rattle.std.specs.Prelude.{◌≡◌, ◌⊎◌, ℕ, ◌+◌, ◌*◌, ◌<◌, ◌≤◌, List, [], length, Some}
 use Rattle.sd_names.specs.Turn.{MatchTurn}
 use Rattle.sd_names.specs.declared.kinds.Format.TheVariants.{Cow}
 use Rattle.sd_names.specs.declared.refusal.Refusal.{Refusal}
@@ -29,7 +29,8 @@ use Rattle.layer_heading.specs.declared.clearing.Clearing as headings
 use Rattle.layer_placing.specs.Chosen.{AreLeast, IsShort}
 use Rattle.layer_placing.specs.Knows.{ArePlaced}
 use Rattle.layer_placing.specs.Placing as placing
-use Rattle.layer_placing.specs.Stages.{pieces_of}
+use Rattle.layer_placing.specs.declared.stage.Asked.{Asked}
+use Rattle.layer_placing.specs.declared.stage.Stage.TheVariants as stages
 use Rattle.chain_laws.specs.Laid.{Laying}
 use Rattle.chain_laws.specs.Written.{FileWritten}
 use Rattle.part_laws.specs.Steps.{AreLayers}
@@ -102,6 +103,7 @@ pub record IsFirst (p : WritePlan) (clusters : List ℕ) (placed : Placed) (s : 
   pub plan : plan_of placed ≡ p
   pub clusters_are : clusters_of placed ≡ clusters
   pub begun : places.IsBegun p s
+  pub few : count_of (span_of p) ≤ 17
 
 abbrev pub WritesFirst : WritePlan → List ℕ → Stage → Type 0
 WritesFirst p clusters (InPlace placed s) = IsFirst p clusters placed s
@@ -109,7 +111,7 @@ WritesFirst p clusters _ = ⊥
 
 -- clusters are taken where some are wanted
 abbrev pub TakesNext : WritePlan → Stage → Type 0
-TakesNext p (Placing t) = (t.plan ≡ p) × placing.IsBegun (wanted_of p) t.work
+TakesNext p (Placing t) = (t.plan ≡ p) × (wanted_of p ≤ 19) × placing.IsBegun (wanted_of p) t.work
 TakesNext p stage = (wanted_of p ≡ 0) × WritesFirst p [] stage
 
 -- want of room comes where it is asked for, and where clusters are chosen
@@ -168,9 +170,14 @@ pub record KnowsClearingOf (p : WritePlan) (c : headings.Clearing) (w : Layer) (
   pub either : AreEither x (header_kept w) f
   pub found : IsFoundOnEach p (header_kept w) f
 
+-- a placing that is still to choose finds as much room as it asks for
+pub record FindsRoom (w : Layer) (sectors wanted : ℕ) (asked : Asked) : Type 0 where
+  pub count : asked.count ≡ wanted
+  pub room : HasRoom w sectors wanted
+
 pub record KnowsTaking (t : Taking) (w : Layer) (l : Laying) (x : VolumeRecord) (host : ℕ) (f : File) : Type 0 where
   pub of : IsOf (span_of t.plan) w l x
-  pub room : HasRoom w f.size (wanted_of t.plan)
+  pub room : (asked : Asked) → placing.stage_of t.work ≡ stages.Begun asked → FindsRoom w f.size (wanted_of t.plan) asked
   pub knows : placing.KnowsFile t.work w host f
   pub layers : AreLayers x (header_kept w) f
   pub found : IsFound t.plan w host f

@@ -22,7 +22,9 @@ use write_planning::WritePlan;
 fn written_first(placed: Placed) -> Stage
     ensures { WritesFirst (plan_of placed) (clusters_of placed) result }
 {
-    let writing = PlaceWriting::begin(placed.plan());
+    let plan = placed.plan();
+    let _count = plan.span().count();
+    let writing = PlaceWriting::begin(plan);
     Stage::InPlace(placed, writing)
 }
 

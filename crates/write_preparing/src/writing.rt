@@ -1,5 +1,5 @@
 // The part is written over data.
-ghost use Rattle.std.specs.Prelude.{◌≡◌, length};
+ghost use Rattle.std.specs.Prelude.{◌≡◌, ℕ, length};
 ghost use Rattle.shared_disk.specs.Calls.{IsAligned, Told};
 ghost use Rattle.shared_disk.specs.Step.{EndsOnlyBy, IsDiskRefusal, StepCounts};
 ghost use Rattle.place_writing.specs.Places as places;
