@@ -1,5 +1,5 @@
 -- What a step leaves by which the header loses its features.
-use Rattle.std.proofs.Common.{◌≡◌, ◌⊎◌, ℕ, ◌+◌, ◌<◌, ◌≤◌, List, length, Some, refl, sym, ap, ◌∙◌, subst, inl, inr, arith}
+use Rattle.std.proofs.Common.{◌≡◌, ℕ, ◌<◌, ◌≤◌, Some, sym, ap, ◌∙◌, subst, arith}
 use Rattle.std.specs.Prelude.{[]}
 use Rattle.sd_names.specs.declared.refusal.Refusal.{Refusal}
 use Rattle.sd_names.specs.declared.turn.Turn.TheVariants.{More, Done, Ended}
@@ -17,7 +17,7 @@ use Rattle.qcow_layer.specs.declared.stages.Target.{Target}
 use Rattle.layer_writing.specs.Holding.{ComesBy, on_medium}
 use Rattle.layer_writing.specs.Writer.{KnowsWriter}
 use Rattle.layer_heading.specs.Cleared.{IsOldOrCleared, cleared}
-use Rattle.layer_heading.specs.Clearing.{Clears, KnowsClearing, KnowsStage as KnowsHeading, StageClears}
+use Rattle.layer_heading.specs.Clearing.{KnowsClearing, KnowsStage as KnowsHeading, StageClears}
 use Rattle.layer_heading.specs.Writing.{Leaves, Turned}
 use Rattle.layer_heading.specs.declared.clearing.Clearing as headings
 use Rattle.layer_heading.specs.declared.clearing_stage.ClearingStage.{ClearingStage}
@@ -28,7 +28,6 @@ use Rattle.layer_placing.specs.declared.stage.Stage as placing
 use Rattle.layer_placing.specs.declared.stage.Stage.TheVariants.{Begun}
 use Rattle.chain_laws.specs.Laid.{Laying}
 use Rattle.chain_laws.specs.Written.{FileWritten}
-use Rattle.part_laws.specs.Steps.{AreLayers}
 use Rattle.part_laws.proofs.Files.{known_layers}
 use Rattle.write_planning.specs.Plan.{span_of, wanted_of}
 use Rattle.write_planning.specs.declared.plan.WritePlan.{WritePlan}
@@ -36,7 +35,7 @@ use Rattle.part_survey.specs.Survey.{HasFound}
 use Rattle.clearing_laws.specs.Either.{AreEither, IsFoundOnEach}
 use Rattle.clearing_laws.proofs.Cleared.{find_cleared, found_still, still, written}
 use Rattle.shared_disk.proofs.Outcomes.{settled_itself}
-use Rattle.write_preparing.specs.Preparing.{FindsRoom, HasRoom, IsFound, IsOf, KnowsClearingOf, KnowsStage, KnowsTaking, Prepares, StageTurn, TakesNext}
+use Rattle.write_preparing.specs.Preparing.{HasRoom, IsFound, IsOf, KnowsClearingOf, KnowsStage, KnowsTaking, Prepares, TakesNext}
 use Rattle.write_preparing.specs.declared.stage.Stage.{Stage}
 use Rattle.write_preparing.specs.declared.stage.Stage.TheVariants.{Surveying, Asking, Clearing, Placing, InPlace}
 use Rattle.write_preparing.specs.declared.stage.Taking.{Taking}
@@ -146,6 +145,7 @@ pub clears_more : (p : WritePlan) (c c' : headings.Clearing) (w next : Layer) (l
 clears_more p c c' w next l x host faults f d e there k formed same call = record {
   now = g p c w next l x host faults f d e there k formed (More c'.stage) call;
   put = put p c w next l x host faults f d e there k formed (More c'.stage) call;
+  early = λ is. absurd is;
   written = written_now p c w next l x host faults f d e there k formed (More c'.stage) call;
   after = subst (λ (m : Layer). KnowsClearingOf p c' m l x host (g p c w next l x host faults f d e there k formed (More c'.stage) call)) (sym same)
       (still_clearing p c w next l x host faults f d e there k formed (More c'.stage) call c' (is_left p c w next l x host faults f d e there k formed (More c'.stage) call).next);
@@ -158,6 +158,7 @@ clears_done p c stage w next l x host faults f d e there k formed with takes cal
     record {
       now = g p c w next l x host faults f d e there k formed (Done tt) call;
       put = put p c w next l x host faults f d e there k formed (Done tt) call;
+      early = λ is. absurd is;
       written = written_now p c w next l x host faults f d e there k formed (Done tt) call;
       after = next_known p c w next l x host faults f d e there k formed (Done tt) call with is.next.0 is.next.1 stage takes;
     }
@@ -167,6 +168,7 @@ pub clears_ended : (p : WritePlan) (c : headings.Clearing) (refusal : Refusal) (
 clears_ended p c refusal w next l x host faults f d e there k formed call = record {
   now = g p c w next l x host faults f d e there k formed (Ended tt refusal) call;
   put = put p c w next l x host faults f d e there k formed (Ended tt refusal) call;
+  early = λ is. absurd is;
   written = written_now p c w next l x host faults f d e there k formed (Ended tt refusal) call;
   after = (is_left p c w next l x host faults f d e there k formed (Ended tt refusal) call).next.0;
 }

@@ -1,5 +1,5 @@
 -- Fewer steps are left, where one kind of step follows another.
-use Rattle.std.proofs.Common.{◌≡◌, ℕ, ◌+◌, ◌-◌, ◌*◌, ◌<◌, ◌≤◌, refl, sym, ap, ◌∙◌, subst, arith}
+use Rattle.std.proofs.Common.{◌≡◌, ℕ, ◌+◌, ◌*◌, ◌<◌, ◌≤◌, ap, ◌∙◌, arith}
 use Rattle.std.proofs.Math.Nat.{mul-le-mul_right}
 use Rattle.layer_heading.specs.Clearing.{clearing_left}
 use Rattle.layer_heading.specs.declared.clearing.Clearing as headings
@@ -12,7 +12,7 @@ use Rattle.write_planning.specs.declared.plan.WritePlan.{WritePlan}
 use Rattle.place_writing.specs.Places as places
 use Rattle.place_writing.specs.declared.places.PlaceWriting.{PlaceWriting}
 use Rattle.write_preparing.specs.Placed.{clusters_of, plan_of}
-use Rattle.write_preparing.specs.Preparing.{IsFirst, IsOfSpan, TakesNext, WritesFirst, stage_left, taking_left}
+use Rattle.write_preparing.specs.Preparing.{IsOfSpan, TakesNext, WritesFirst, stage_left, taking_left}
 use Rattle.write_preparing.specs.declared.placed.Placed.{Placed}
 use Rattle.write_preparing.specs.declared.stage.Stage.{Stage}
 use Rattle.write_preparing.specs.declared.stage.Stage.TheVariants.{Surveying, Asking, Clearing, Placing, InPlace}

@@ -1,6 +1,6 @@
 -- What was found of a part's clusters, on the outcomes of the layer's file and as its host sees it.
-use Rattle.std.proofs.Common.{◌≡◌, ◌⊎◌, ℕ, ◌+◌, ◌/◌, ◌^◌, ◌<◌, ◌≤◌, Bool, false, List, Some, Ok, refl, sym, ap, ◌∙◌, subst, inl, inr, arith, nat_lt}
-use Rattle.std.specs.Prelude.{◌&&◌, []}
+use Rattle.std.proofs.Common.{◌≡◌, ◌⊎◌, ℕ, ◌+◌, ◌/◌, ◌<◌, ◌≤◌, false, List, refl, sym, ap, ◌∙◌, subst, inl, inr, arith, nat_lt}
+use Rattle.std.specs.Prelude.{◌&&◌}
 use Rattle.std.proofs.lemmas.Bool.{cases_lt}
 use Rattle.std.proofs.lemmas.Bool.Decides.{nat_tests}
 use Rattle.shared_disk.specs.Calls.{synced}
@@ -12,7 +12,7 @@ use Rattle.image_model.specs.File as image
 use Rattle.image_model.specs.Layer.{entries, entry_at, has_table, l1_entry, names_table}
 use Rattle.layer_laws.specs.Laws.{layer}
 use Rattle.qcow_layer.specs.declared.layer.Layer.{Layer}
-use Rattle.layer_writing.specs.Holding.{as_seen, on_medium}
+use Rattle.layer_writing.specs.Holding.{on_medium}
 use Rattle.layer_writing.specs.Writer.{KnowsWriter, seen_tables}
 use Rattle.layer_writing.proofs.Known.{settled_medium}
 use Rattle.layer_writing.proofs.Sectors.{alone_synced}
@@ -23,10 +23,8 @@ use Rattle.write_planning.specs.Plan.{looked_up, span_of}
 use Rattle.write_planning.specs.Span.{count_of, first_of}
 use Rattle.write_planning.specs.declared.plan.WritePlan.{WritePlan}
 use Rattle.part_survey.specs.Survey.{HasFound}
-use Rattle.place_writing.specs.Places as places
-use Rattle.place_writing.specs.Places.{HoldsPlaces, IsOver}
+use Rattle.place_writing.specs.Places.{IsOver}
 use Rattle.place_writing.specs.declared.places.PlaceWriting.{PlaceWriting}
-use Rattle.write_preparing.specs.Placed.{clusters_of, plan_of}
 use Rattle.write_preparing.specs.Preparing.{IsFirst, IsFound, IsOf, KnowsPlaces, KnowsStage, WritesFirst}
 use Rattle.write_preparing.specs.declared.placed.Placed.{Placed}
 use Rattle.write_preparing.specs.declared.stage.Stage.{Stage}

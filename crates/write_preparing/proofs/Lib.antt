@@ -5,3 +5,4 @@ pub mod Falls
 pub mod Clears
 pub mod Takes
 pub mod Places
+pub mod Dispatch

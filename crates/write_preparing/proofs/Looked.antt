@@ -1,19 +1,16 @@
 -- What a step of the look-up leaves, and one that asks for room.
-use Rattle.std.proofs.Common.{◌≡◌, ◌⊎◌, ℕ, ◌+◌, ◌*◌, ◌^◌, ◌<◌, ◌≤◌, List, length, Option, Some, Result, Ok, Err, refl, sym, ap, ◌∙◌, subst, inl, inr, arith}
-use Rattle.sd_names.specs.Turn.{MatchTurn}
+use Rattle.std.proofs.Common.{◌≡◌, ℕ, Some, Ok, Err, refl, sym, ap, ◌∙◌, subst, inl, inr, arith}
 use Rattle.sd_names.specs.declared.refusal.Refusal.{Refusal}
 use Rattle.sd_names.specs.declared.refusal.Refusal.TheVariants.{DiskFault}
 use Rattle.sd_names.specs.declared.turn.Turn.TheVariants.{More, Done, Ended}
 use Rattle.shared_disk.specs.Calls.{HasLength, IsSame}
 use Rattle.shared_disk.specs.Content.{Content, File, seen}
-use Rattle.shared_disk.specs.Crash.{IsFileOutcome}
 use Rattle.shared_disk.specs.Refusal.{IsRisen, refusal_of}
 use Rattle.shared_disk.specs.declared.disk.DiskAnswer.{DiskAnswer}
 use Rattle.shared_disk.specs.declared.disk.DiskAnswer.TheVariants.{NoFile, Exists, OutOfFile, NotEmpty, Failed}
 use Rattle.shared_disk.proofs.AtPlace.{no_file}
 use Rattle.volume_meta.specs.declared.record.VolumeRecord.{VolumeRecord}
-use Rattle.image_model.specs.Room.{Need, room_of}
-use Rattle.layer_laws.specs.Laws.{layer}
+use Rattle.image_model.specs.Room.{room_of}
 use Rattle.qcow_layer.specs.Looking.{IsFault}
 use Rattle.qcow_layer.specs.Seen.{IsSeen}
 use Rattle.qcow_layer.specs.declared.layer.Layer.{Layer}
@@ -22,7 +19,6 @@ use Rattle.layer_writing.specs.Holding.{as_seen, on_medium}
 use Rattle.layer_writing.specs.Writer.{seen_tables}
 use Rattle.layer_heading.specs.Clearing as heading
 use Rattle.layer_heading.specs.Clearing.{KnowsClearing}
-use Rattle.layer_heading.specs.Writing.{IsQuiet}
 use Rattle.layer_heading.specs.declared.clearing.Clearing as headings
 use Rattle.layer_heading.specs.declared.clearing_stage.ClearingStage.{ClearingStage}
 use Rattle.layer_heading.specs.declared.clearing_stage.ClearingStage.TheVariants.{Begun}
@@ -33,17 +29,16 @@ use Rattle.layer_placing.proofs.Starts.{same_long}
 use Rattle.chain_laws.specs.Laid.{Laying}
 use Rattle.part_laws.proofs.Held.{alike_written}
 use Rattle.write_planning.specs.Plan.{Tells, looked_up, span_of, wanted_of}
-use Rattle.write_planning.specs.Span.{count_of, first_of}
+use Rattle.write_planning.specs.Span.{count_of}
 use Rattle.write_planning.specs.declared.plan.WritePlan.{WritePlan}
 use Rattle.write_planning.specs.declared.span.Span.{Span}
 use Rattle.write_planning.proofs.Needs.{wants_need}
-use Rattle.part_survey.specs.Survey as survey
 use Rattle.part_survey.specs.Survey.{HasFound, Surveys}
 use Rattle.part_survey.specs.declared.survey.Survey.{Survey}
 use Rattle.clearing_laws.specs.Either.{IsFoundOnEach}
 use Rattle.clearing_laws.proofs.Cleared.{begins}
 use Rattle.place_writing.proofs.Written.{found_same}
-use Rattle.write_preparing.specs.Preparing.{AsksNext, HasRoom, IsOf, KnowsAsking, KnowsClearingOf, KnowsStage, KnowsSurveying, LacksRoom, MayEnd, Prepares, StageTurn}
+use Rattle.write_preparing.specs.Preparing.{AsksNext, IsOf, KnowsAsking, KnowsClearingOf, KnowsStage, KnowsSurveying, MayEnd, Prepares}
 use Rattle.write_preparing.specs.declared.stage.Stage.{Stage}
 use Rattle.write_preparing.specs.declared.stage.Stage.TheVariants.{Surveying, Asking, Clearing, Placing, InPlace}
 use Rattle.write_preparing.specs.declared.stage.Wanting.{Wanting}
@@ -64,6 +59,7 @@ module _ (stage : Stage) (w : Layer) (l : Laying) (x : VolumeRecord) (host fault
   goes_on next knows = record {
     now = f;
     put = same_put d e w.target.place f same there;
+    early = λ is. same;
     written = alike_written l x f f says (λ o out. (o, out, λ j. refl));
     after = knows;
   }
@@ -72,6 +68,7 @@ module _ (stage : Stage) (w : Layer) (l : Laying) (x : VolumeRecord) (host fault
   refused refusal may = record {
     now = f;
     put = same_put d e w.target.place f same there;
+    early = λ is. same;
     written = alike_written l x f f says (λ o out. (o, out, λ j. refl));
     after = may;
   }

@@ -1,5 +1,5 @@
 -- What a step of the writing over data leaves.
-use Rattle.std.proofs.Common.{◌≡◌, ℕ, ◌+◌, ◌*◌, ◌/◌, ◌%◌, ◌^◌, ◌<◌, ◌≤◌, List, length, Some, refl, sym, ap, ◌∙◌, subst, arith}
+use Rattle.std.proofs.Common.{◌≡◌, ℕ, ◌*◌, ◌/◌, ◌^◌, ◌<◌, List, length, sym, ap, ◌∙◌, subst, arith}
 use Rattle.std.specs.Prelude.{slice_index}
 use Rattle.sd_names.specs.declared.refusal.Refusal.{Refusal}
 use Rattle.sd_names.specs.declared.turn.Turn.TheVariants.{More, Done, Ended}
@@ -21,8 +21,8 @@ use Rattle.write_planning.specs.declared.plan.WritePlan.{WritePlan}
 use Rattle.place_writing.specs.Places as places
 use Rattle.place_writing.specs.Places.{HoldsPlaces, IsOver}
 use Rattle.place_writing.specs.declared.places.PlaceWriting.{PlaceWriting}
-use Rattle.write_preparing.specs.Placed.{clusters_of, plan_of}
-use Rattle.write_preparing.specs.Preparing.{IsPrepared, KnowsPlaces, Prepares}
+use Rattle.write_preparing.specs.Placed.{clusters_of}
+use Rattle.write_preparing.specs.Preparing.{KnowsPlaces, Prepares}
 use Rattle.write_preparing.specs.declared.placed.Placed.{Placed}
 use Rattle.write_preparing.specs.declared.stage.Stage.TheVariants.{InPlace}
 use Rattle.write_preparing.proofs.Room.{seen_size}
@@ -60,6 +60,7 @@ module _ (placed : Placed) (s : PlaceWriting) (w : Layer) (l : Laying) (x : Volu
   writes_more next same call = record {
     now = call.now;
     put = call.put;
+    early = λ is. absurd is;
     written = call.written;
     after = record { same = same ∙ k.same; places = call.after; placed = still_placed w host f call.now (clusters_of placed) call.over.writer call.same call.counts call.size k.placed };
   }
@@ -68,6 +69,7 @@ module _ (placed : Placed) (s : PlaceWriting) (w : Layer) (l : Laying) (x : Volu
   writes_done call = record {
     now = call.now;
     put = call.put;
+    early = λ is. absurd is;
     written = call.written;
     after = record {
       over = subst (λ (q : WritePlan). IsOver q w l x host call.now) k.same call.over;
@@ -77,4 +79,4 @@ module _ (placed : Placed) (s : PlaceWriting) (w : Layer) (l : Laying) (x : Volu
   }
 
   pub writes_ended : (refusal : Refusal) → places.Places s w l x host faults (Ended tt refusal) f d e → Prepares (InPlace placed s) w w l x host faults (Ended tt refusal) f d e
-  writes_ended refusal call = record { now = call.now; put = call.put; written = call.written; after = call.after }
+  writes_ended refusal call = record { now = call.now; put = call.put; early = λ is. absurd is; written = call.written; after = call.after }

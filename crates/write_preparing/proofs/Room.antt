@@ -4,7 +4,7 @@ use Rattle.std.specs.Prelude.{min, slice_index}
 use Rattle.shared_disk.specs.Content.{File}
 use Rattle.image_model.specs.File as image
 use Rattle.image_model.specs.Layer.{Tables}
-use Rattle.image_model.specs.Room.{end_of_room, free_below, how_many, room_of}
+use Rattle.image_model.specs.Room.{end_of_room, how_many, room_of}
 use Rattle.qcow_format.specs.declared.header.Header.{Header}
 use Rattle.layer_laws.specs.Laws.{layer}
 use Rattle.layer_walk.specs.Bits as bits
@@ -17,7 +17,7 @@ use Rattle.qcow_layer.specs.declared.layer.Layer.{Layer}
 use Rattle.layer_writing.specs.Holding.{as_seen}
 use Rattle.layer_writing.specs.Writer.{MapTells}
 use Rattle.layer_heading.specs.Cleared.{cleared}
-use Rattle.layer_placing.specs.Chosen.{AreLeast, IsNthFree, IsShort}
+use Rattle.layer_placing.specs.Chosen.{AreLeast, IsShort}
 use Rattle.layer_placing.proofs.Least.{fewer_free, grows, next_counted}
 use Rattle.write_preparing.specs.Preparing.{HasRoom}
 

@@ -1,28 +1,24 @@
 -- What a step of the taking of clusters leaves.
-use Rattle.std.proofs.Common.{◌≡◌, ◌⊎◌, ℕ, ◌+◌, ◌*◌, ◌^◌, ◌<◌, ◌≤◌, List, length, Some, Ok, refl, sym, ap, ◌∙◌, subst, inl, inr, arith}
-use Rattle.std.specs.Prelude.{[]}
+use Rattle.std.proofs.Common.{◌≡◌, ℕ, ◌+◌, ◌^◌, ◌<◌, ◌≤◌, List, length, Some, refl, sym, ap, ◌∙◌, subst, inl, inr, arith}
 use Rattle.sd_names.specs.declared.refusal.Refusal.{Refusal}
 use Rattle.sd_names.specs.declared.refusal.Refusal.TheVariants.{DiskFault}
 use Rattle.sd_names.specs.declared.turn.Turn.TheVariants.{More, Done, Ended}
 use Rattle.shared_disk.specs.Calls.{IsPut}
 use Rattle.shared_disk.specs.Content.{Content, File}
-use Rattle.shared_disk.specs.Crash.{OnEach}
-use Rattle.shared_disk.specs.WellFormed.{IsWellFormed, IsWellFormedFile}
+use Rattle.shared_disk.specs.WellFormed.{IsWellFormed}
 use Rattle.shared_disk.proofs.WellFormed.{outcome_file_keeps}
 use Rattle.qcow_format.specs.declared.header.Header.{Header}
 use Rattle.volume_meta.specs.declared.record.VolumeRecord.{VolumeRecord}
-use Rattle.image_model.specs.File.{file_of}
 use Rattle.image_model.specs.Layer.{entry_at, has_table, l1_entry}
 use Rattle.image_model.specs.Room.{room_of}
-use Rattle.image_model.specs.Soundness.{layer_header}
 use Rattle.layer_laws.specs.Laws.{layer}
 use Rattle.qcow_layer.specs.declared.layer.Layer.{Layer}
 use Rattle.qcow_layer.specs.declared.stages.Target.{Target}
 use Rattle.layer_writing.specs.Holding.{ComesBy, HoldSame, as_seen, on_medium}
 use Rattle.layer_writing.specs.Writer.{KnowsWriter, seen_tables}
 use Rattle.layer_placing.specs.Chosen.{IsShort, listed}
-use Rattle.layer_placing.specs.Knows.{ArePlaced, EndsBy, KeepsList, KnowsIn, RefusesRoom, StaySpare, chosen_in}
-use Rattle.layer_placing.specs.Placing.{KeepsClusters, Places}
+use Rattle.layer_placing.specs.Knows.{EndsBy, KeepsList, KnowsIn, StaySpare, chosen_in}
+use Rattle.layer_placing.specs.Placing.{Places}
 use Rattle.layer_placing.specs.Stages.{OnlyTakes}
 use Rattle.layer_placing.specs.declared.clusters.Clusters.{Clusters}
 use Rattle.layer_placing.specs.declared.placing.Placing as placings
@@ -33,11 +29,11 @@ use Rattle.chain_laws.specs.Laid.{Laying}
 use Rattle.chain_laws.specs.Written.{FileWritten}
 use Rattle.part_laws.specs.Steps.{AreLayers}
 use Rattle.part_laws.proofs.Held.{same_written}
-use Rattle.write_planning.specs.Plan.{found_at, looked_up, span_of, wanted_of}
+use Rattle.write_planning.specs.Plan.{span_of, wanted_of}
 use Rattle.write_planning.specs.Span.{first_of}
 use Rattle.write_planning.specs.declared.plan.WritePlan.{WritePlan}
 use Rattle.write_preparing.specs.Placed.{clusters_of, plan_of}
-use Rattle.write_preparing.specs.Preparing.{FindsRoom, HasRoom, IsFound, IsOf, KnowsStage, KnowsTaking, MayEnd, Prepares, StageTurn, WritesFirst}
+use Rattle.write_preparing.specs.Preparing.{IsFound, IsOf, KnowsTaking, Prepares, WritesFirst}
 use Rattle.write_preparing.specs.Taking.{TakesWanted}
 use Rattle.write_preparing.specs.declared.placed.Placed.{Placed}
 use Rattle.write_preparing.specs.declared.stage.Stage.{Stage}
@@ -128,6 +124,7 @@ module _ (t : Taking) (w next : Layer) (l : Laying) (x : VolumeRecord) (host fau
   takes_more work u plan is keeps call = record {
     now = call.now;
     put = call.put;
+    early = λ is. absurd is;
     written = written_now call.now call.put call.comes;
     after = record {
       of = subst (λ (q : WritePlan). IsOf (span_of q) next l x) (sym plan) of_next;
@@ -143,6 +140,7 @@ module _ (t : Taking) (w next : Layer) (l : Laying) (x : VolumeRecord) (host fau
   takes_done clusters placed stage plan are first call = record {
     now = call.now;
     put = call.put;
+    early = λ is. absurd is;
     written = written_now call.now call.put call.comes;
     after = first_known t.plan (listed clusters) next l x host call.now of_next (found_now call.now call.put call.comes call.spare) call.after stage
         (subst (λ (xs : List ℕ). WritesFirst t.plan xs stage) are (subst (λ (q : WritePlan). WritesFirst q (clusters_of placed) stage) plan first));
@@ -152,6 +150,7 @@ module _ (t : Taking) (w next : Layer) (l : Laying) (x : VolumeRecord) (host fau
   takes_ended refusal call = record {
     now = call.now;
     put = call.put;
+    early = λ is. absurd is;
     written = written_now call.now call.put call.comes;
     after = go t.work.stage refl call.after;
   }

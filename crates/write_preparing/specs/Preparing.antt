@@ -6,13 +6,13 @@ use Rattle.sd_names.specs.declared.refusal.Refusal.{Refusal}
 use Rattle.sd_names.specs.declared.refusal.Refusal.TheVariants.{DiskFault, NoRoom}
 use Rattle.sd_names.specs.declared.turn.Turn.{Turn}
 use Rattle.sd_names.specs.declared.turn.Turn.TheVariants.{More, Done, Ended}
-use Rattle.shared_disk.specs.Calls.{IsAligned, IsPut, IsSame}
+use Rattle.shared_disk.specs.Calls.{IsPut, IsSame}
 use Rattle.shared_disk.specs.Content.{Content, File}
 use Rattle.shared_disk.specs.Crash.{OnEach}
 use Rattle.shared_disk.specs.Step.{IsDiskRefusal, NearsEnd}
 use Rattle.shared_disk.specs.WellFormed.{IsWellFormedFile}
 use Rattle.image_model.specs.File as image
-use Rattle.image_model.specs.Layer.{Tables, cluster_size, entry_at, has_table}
+use Rattle.image_model.specs.Layer.{cluster_size, entry_at, has_table}
 use Rattle.image_model.specs.Room.{Need, end_of_room, room_of}
 use Rattle.volume_meta.specs.declared.record.VolumeRecord.{VolumeRecord}
 use Rattle.layer_laws.specs.Laws.{layer}
@@ -20,7 +20,7 @@ use Rattle.qcow_layer.specs.Opening.{capacity_kept, header_kept, place_kept, tar
 use Rattle.qcow_layer.specs.declared.layer.Layer.{Layer}
 use Rattle.qcow_layer.specs.declared.looking.Looked.{Looked}
 use Rattle.layer_writing.specs.Holding.{on_medium}
-use Rattle.layer_writing.specs.Writer.{KnowsWriter, seen_tables}
+use Rattle.layer_writing.specs.Writer.{seen_tables}
 use Rattle.layer_heading.specs.Clearing as heading
 use Rattle.layer_heading.specs.Clearing.{KnowsClearing, clearing_left}
 use Rattle.layer_heading.specs.declared.clearing_stage.ClearingStage.TheVariants.{Begun}
@@ -203,6 +203,12 @@ pub record IsPrepared (p : Placed) (w : Layer) (l : Laying) (x : VolumeRecord) (
 
 -- ---- what a step leaves
 
+-- until room is found nothing is changed
+abbrev pub IsEarly : Stage → Type 0
+IsEarly (Surveying s) = Unit {0}
+IsEarly (Asking a) = Unit {0}
+IsEarly stage = ⊥
+
 -- Want of room: it is short of as many clusters as the part's write needs, and nothing is changed.
 pub record LacksRoom (s : Span) (w next : Layer) (host : ℕ) (refusal : Refusal) (f : File) (d e : Content) : Type 0 where
   pub same : IsSame d e
@@ -220,6 +226,7 @@ MayEnd stage w next host faults refusal f d e = refusal ≡ DiskFault faults
 pub record Prepares (stage : Stage) (w next : Layer) (l : Laying) (x : VolumeRecord) (host faults : ℕ) (turn : StageTurn) (f : File) (d e : Content) : Type 0 where
   pub now : File
   pub put : IsPut d (place_kept w) (Some now) e
+  pub early : IsEarly stage → IsSame d e
   pub written : FileWritten l f now
   pub after : MatchTurn turn
       (λ s. KnowsStage s next l x host now)
@@ -233,12 +240,6 @@ PreparesAt stage w next host faults turn d e = (l : Laying) (x : VolumeRecord) (
 abbrev pub PreparesIn : Stage → Layer → Layer → ℕ → ℕ → List ℕ → StageTurn → Content → Content → Type 0
 PreparesIn stage w next host faults part turn d e = (l : Laying) (x : VolumeRecord) (f : File) → d.file (place_kept w) ≡ Some f → KnowsStage stage w l x host f → l.part.bytes ≡ part
     → Prepares stage w next l x host faults turn f d e
-
--- until room is found nothing is changed
-abbrev pub IsEarly : Stage → Type 0
-IsEarly (Surveying s) = Unit {0}
-IsEarly (Asking a) = Unit {0}
-IsEarly stage = ⊥
 
 -- ---- in public words
 

@@ -1,6 +1,3 @@
-use Rattle.std.proofs.Common.{subst, sym}
-use Rattle.qcow_layer.specs.declared.layer.Layer.{Layer}
-use Rattle.write_preparing.specs.Preparing.{PreparesAt, StageTurn}
 use Rattle.write_preparing.proofs.Looked.{surveys_done, surveys_ended, surveys_more}
 use Rattle.write_preparing.proofs.beginning.survey.Goals as goal
 

@@ -1,4 +1,4 @@
-use Rattle.std.proofs.Common.{refl, sym, ap}
+use Rattle.std.proofs.Common.{refl}
 use Rattle.layer_placing.specs.Stages.{pieces_of}
 use Rattle.write_preparing.proofs.Falls.{first_falls}
 use Rattle.write_preparing.proofs.Takes.{takes_done, takes_ended, takes_more}
