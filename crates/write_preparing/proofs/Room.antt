@@ -55,13 +55,13 @@ module _ (w next : Layer) (is : IsWithHeader w (cleared w.work.header) (parent_k
       go : (file : image.File) → AreLeast w (end_of_room (room_of (layer w.work.header file))) wanted room.chosen → AreLeast next (end_of_room (room_of (layer next.work.header file))) wanted room.chosen
       go file least = subst (λ n. AreLeast next n wanted room.chosen) (sym (end_same file)) (record {
         each = λ i lt. let a = least.each i lt in (
-              record {
-                free = ap (λ (F : ℕ → Bool). F (slice_index room.chosen i)) map_same ∙ a.0.free;
-                below = ap (λ (F : ℕ → Bool). how_many F (slice_index room.chosen i)) map_same ∙ a.0.below;
-              },
-              a.1,
-              subst (λ n. slice_index room.chosen i < n) (sym mapped_same) a.2,
-            );
+          record {
+            free = ap (λ (F : ℕ → Bool). F (slice_index room.chosen i)) map_same ∙ a.0.free;
+            below = ap (λ (F : ℕ → Bool). how_many F (slice_index room.chosen i)) map_same ∙ a.0.below;
+          },
+          a.1,
+          subst (λ n. slice_index room.chosen i < n) (sym mapped_same) a.2,
+        );
         many = least.many;
         few = λ less. ap (λ n. how_many (is_free next) (min (end_of_room (room_of (layer w.work.header file))) n)) mapped_same
             ∙ ap (λ (F : ℕ → Bool). how_many F (min (end_of_room (room_of (layer w.work.header file))) (mapped w))) map_same ∙ least.few less;
