@@ -241,6 +241,20 @@ abbrev pub PreparesIn : Stage → Layer → Layer → ℕ → ℕ → List ℕ �
 PreparesIn stage w next host faults part turn d e = (l : Laying) (x : VolumeRecord) (f : File) → d.file (place_kept w) ≡ Some f → KnowsStage stage w l x host f → l.part.bytes ≡ part
     → Prepares stage w next l x host faults turn f d e
 
+-- ---- whether the header has lost the features that a writer clears
+
+abbrev pub IsPlain : Layer → Type 0
+IsPlain w = (header_kept w).autoclear_features ≡ 0
+
+-- so it has in each stage that changes anything but the header
+abbrev pub StagePlain : Stage → Layer → Type 0
+StagePlain (Placing t) w = IsPlain w
+StagePlain (InPlace p s) w = IsPlain w
+StagePlain stage w = Unit {0}
+
+abbrev pub KeepsPlain : Stage → Layer → Layer → StageTurn → Type 0
+KeepsPlain stage w next turn = StagePlain stage w → MatchTurn turn (λ s. StagePlain s next) (λ _. IsPlain next) (λ _ _. Unit {0})
+
 -- ---- in public words
 
 abbrev pub stage_of : Preparing → Stage
@@ -266,9 +280,16 @@ Knows p w l x host f = KnowsStage p.stage w l x host f
 abbrev pub PreparesOn : Preparing → Layer → Layer → ℕ → ℕ → List ℕ → PreparingTurn → Content → Content → Type 0
 PreparesOn p w next host faults part turn d e = PreparesIn p.stage w next host faults part (stage_turn turn) d e
 
+abbrev pub IsPlainIn : Preparing → Layer → Type 0
+IsPlainIn p w = StagePlain p.stage w
+
+abbrev pub StaysPlain : Preparing → Layer → Layer → PreparingTurn → Type 0
+StaysPlain p w next turn = KeepsPlain p.stage w next (stage_turn turn)
+
 -- a preparing that was begun
 pub record IsBegun (s : Span) (p : Preparing) : Type 0 where
   pub span : span_in p ≡ s
   pub left : (pieces : ℕ) → preparing_left pieces p ≡ 2 * count_of s + 5 + taking_left pieces
   pub early : IsEarly p.stage
+  pub plain : (w : Layer) → IsPlainIn p w
   pub knows : (w : Layer) (l : Laying) (x : VolumeRecord) (host : ℕ) (f : File) → IsOf s w l x → IsQuiet w host f → width_of s ≡ cluster_size (seen_tables w host f) → Knows p w l x host f
