@@ -49,6 +49,7 @@ use Rattle.chain_settling.specs.declared.stages.Stage.TheVariants.{Texts}
 use Rattle.chain_settling.specs.declared.texts.Change.{Change}
 use Rattle.chain_settling.specs.declared.texts.Change.TheVariants.{Parent, Voltype}
 use Rattle.chain_settling.proofs.Alike.{no_step, same_or_not}
+use Rattle.chain_settling.proofs.Rights.{change_needed}
 use Rattle.chain_settling.proofs.Plans.{changed_here, changed_there, done_on, names_up, parent_by, partly, place_of, right_before, stays_done, typed_on, voltype_in, was}
 
 -- ---- records that are the same one by one
@@ -228,6 +229,7 @@ text_begins c p i host v change xs w r x d k at is valid ids files same says her
   at = ap (λ (vs : List Id). slice_get vs i) ids ∙ at;
   says = says;
   is = here;
+  wrong = change_needed p c v change r x d k.image is;
   file = file;
   volatile = volatile;
   version = version;
@@ -255,7 +257,7 @@ id_at c i v is = slice_get-map (λ (y : Volume). y.id) (records_kept c) i ∙ ap
 nothing_done : (s : Stage) (host faults : ℕ) (r : Records) (x : Volumes) (turn : StageTurn) (d : Content) → MeetsAt (IsShown (folder_in (chain_in s)) d) s turn
     → ReadsAlike (image_kept (chain_in s)) (folder_in (chain_in s)) r x d → OpensAlike (image_kept (chain_in s)) (folder_in (chain_in s)) r x d
     → MatchTurn turn (λ next. KnowsStage next host r x d) (λ c. IsSettledImage c host r x d) (λ _ refusal. refusal ≡ DiskFault faults) → Settles s host faults r x turn d d
-nothing_done s host faults r x turn d shows alike opens after = record { shows = shows; dirs = λ q. refl; others = λ q _. refl; kept = λ q _. refl; layers = λ b l _. no_step l (d.file (place_kept l)) (d.file (place_kept l)) refl; alike = alike; opens = opens; after = after }
+nothing_done s host faults r x turn d shows alike opens after = record { shows = shows; dirs = λ q. refl; others = λ q _. refl; kept = λ q _. refl; layers = λ b l _. no_step l (d.file (place_kept l)) (d.file (place_kept l)) refl; alike = alike; opens = opens; right = λ v ok. refl; after = after }
 
 pub list_ends : (c : Chain) (p : Part) (i : ℕ) (turn : StageTurn) → length (records_kept c) ≤ i → IsEndTurn c p turn → (host faults : ℕ) (d : Content) → SettlesIn (Texts c p i) host faults turn d d
 list_ends c Parents i turn past is host faults d r x k =

@@ -82,6 +82,7 @@ tidying_settles c t host faults turn d e formed leaves shows same r x k = record
   layers = λ b l is. no_step l (d.file (place_kept l)) (e.file (place_kept l)) (at_place c host d e k.files.layers kept b l is);
   alike = alike_kept (image_kept c) (folder_in c) r x d e kept k.files.image.alike;
   opens = opens_kept (image_kept c) (folder_in c) r x d e kept k.files.image.opens;
+  right = λ v ok. kept.texts v;
   after = go turn same (leaves.after k.names);
 }
   where
@@ -306,6 +307,7 @@ lengthening_settles c at l host faults turn d e formed formed_then each r x k = 
       layers = each_step c at k.layer l host faults r x (More next) d e k.is formed k leaves;
       alike = alike c at k.layer l host faults r x (More next) d e k.is formed k leaves;
       opens = opens c at k.layer l host faults r x (More next) d e k.is formed k leaves;
+      right = λ v ok. texts_same c at k.layer l host faults r x (More next) d e k.is formed k leaves v;
       after = goes_on c at k.layer l host faults r x (More next) d e k.is formed k leaves next (leaves.after k.here);
     }
     go (Done u) leaves = record {
@@ -316,6 +318,7 @@ lengthening_settles c at l host faults turn d e formed formed_then each r x k = 
       layers = each_step c at k.layer l host faults r x (Done u) d e k.is formed k leaves;
       alike = alike c at k.layer l host faults r x (Done u) d e k.is formed k leaves;
       opens = opens c at k.layer l host faults r x (Done u) d e k.is formed k leaves;
+      right = λ v ok. texts_same c at k.layer l host faults r x (Done u) d e k.is formed k leaves v;
       after = ends c at k.layer l host faults r x (Done u) d e k.is formed k leaves formed_then (leaves.after k.here);
     }
     go (Ended u refusal) leaves = record {
@@ -326,6 +329,7 @@ lengthening_settles c at l host faults turn d e formed formed_then each r x k = 
       layers = each_step c at k.layer l host faults r x (Ended u refusal) d e k.is formed k leaves;
       alike = alike c at k.layer l host faults r x (Ended u refusal) d e k.is formed k leaves;
       opens = opens c at k.layer l host faults r x (Ended u refusal) d e k.is formed k leaves;
+      right = λ v ok. texts_same c at k.layer l host faults r x (Ended u refusal) d e k.is formed k leaves v;
       after = leaves.after k.here;
     }
 
@@ -351,6 +355,7 @@ lengths_go_on c at host faults d (Raw length) is r x k = record {
   layers = λ b l _. no_step l (d.file (place_kept l)) (d.file (place_kept l)) refl;
   alike = k.files.image.alike;
   opens = k.files.image.opens;
+  right = λ v ok. refl;
   after = record {
     files = k.files;
     tidy = k.tidy;
@@ -371,6 +376,7 @@ lengths_go_on c at host faults d (Cow m) is r x k = record {
   layers = λ b l _. no_step l (d.file (place_kept l)) (d.file (place_kept l)) refl;
   alike = k.files.image.alike;
   opens = k.files.image.opens;
+  right = λ v ok. refl;
   after = record {
     files = k.files;
     tidy = k.tidy;
@@ -392,6 +398,7 @@ lengths_end c at host faults d none r x k = record {
   layers = λ b l _. no_step l (d.file (place_kept l)) (d.file (place_kept l)) refl;
   alike = k.files.image.alike;
   opens = k.files.image.opens;
+  right = λ v ok. refl;
   after = record { image = k.files.image; said = k.files.said; tidy = k.tidy; formed = k.formed; told = λ b l low is. absurd (omega (arith, low)); rest = record { layers = k.files.layers; whole = λ b n at_b. go b n at_b (cases_lt b at) } };
 }
   where
@@ -441,7 +448,7 @@ none_at c at is = go (slice_get (open_in c) at) refl is
 
 pub headers_turn : (c : Chain) (at : ℕ) (host faults : ℕ) (d : Content) (turn : StageTurn) → ((r : Records) (x : Volumes) → KnowsHeaders c at host r x d → MatchTurn turn (λ next. KnowsStage next host r x d) (λ z. IsSettledImage z host r x d) (λ _ refusal. refusal ≡ DiskFault faults))
     → (r : Records) (x : Volumes) → KnowsStage (stages.Headers c at) host r x d → Settles (stages.Headers c at) host faults r x turn d d
-headers_turn c at host faults d turn after r x k = record { shows = tt; dirs = λ q. refl; others = λ q _. refl; kept = λ q _. refl; layers = λ b l _. no_step l (d.file (place_kept l)) (d.file (place_kept l)) refl; alike = k.image.alike; opens = k.image.opens; after = after r x k }
+headers_turn c at host faults d turn after r x k = record { shows = tt; dirs = λ q. refl; others = λ q _. refl; kept = λ q _. refl; layers = λ b l _. no_step l (d.file (place_kept l)) (d.file (place_kept l)) refl; alike = k.image.alike; opens = k.image.opens; right = λ v ok. refl; after = after r x k }
 
 pub headers_end : (c : Chain) (at host : ℕ) (r : Records) (x : Volumes) (d : Content) → kind_at c at ≡ kind.End → KnowsHeaders c at host r x d → KnowsTexts c Parents 0 host r x d
 headers_end c at host r x d end k = record {

@@ -394,6 +394,7 @@ heading_settles c next at h host faults turn d e formed same rebases r x k = go 
           layers = each_step c at h is.0 host faults r x (More more) d e formed k target is.3 new;
           alike = alike c at h is.0 host faults r x (More more) d e formed k target is.3 new;
           opens = opens c at h is.0 host faults r x (More more) d e formed k target is.3 new;
+          right = λ v ok. texts_same c at h is.0 host faults r x (More more) d e formed k target is.3 new v;
           after = subst (λ (z : Chain). KnowsHeading z at more host r x e) (sym is.1) (goes_on c at h is.0 host faults r x (More more) d e formed k target is.3 new more same is.2 found.2.next);
         }
     go (Done u) same is =
@@ -409,6 +410,7 @@ heading_settles c next at h host faults turn d e formed same rebases r x k = go 
           layers = each_step c at h is.0 host faults r x (Done u) d e formed k target is.3 new;
           alike = alike c at h is.0 host faults r x (Done u) d e formed k target is.3 new;
           opens = opens c at h is.0 host faults r x (Done u) d e formed k target is.3 new;
+          right = λ v ok. texts_same c at h is.0 host faults r x (Done u) d e formed k target is.3 new v;
           after = subst (λ (z : Chain). KnowsHeaders z (at + 1) host r x e) (sym is.1) (ends c at h is.0 host faults r x (Done u) d e formed k target is.3 new found.2.next.0 found.2.next.1 is.2.parent_is);
         }
     go (Ended u refusal) same is =
@@ -424,6 +426,7 @@ heading_settles c next at h host faults turn d e formed same rebases r x k = go 
           layers = each_step c at h is.0 host faults r x (Ended u refusal) d e formed k target is.3 new;
           alike = alike c at h is.0 host faults r x (Ended u refusal) d e formed k target is.3 new;
           opens = opens c at h is.0 host faults r x (Ended u refusal) d e formed k target is.3 new;
+          right = λ v ok. texts_same c at h is.0 host faults r x (Ended u refusal) d e formed k target is.3 new v;
           after = found.2.next.0;
         }
 

@@ -12,6 +12,7 @@ pub mod Fits
 pub mod Grows
 pub mod HeadNames
 pub mod UpNames
+pub mod Rights
 pub mod HeadOpens
 pub mod Listed
 pub mod Heads
@@ -19,4 +20,5 @@ pub mod Opened
 pub mod Known
 pub mod Reopened
 pub mod Survives
+pub mod Grown
 pub mod Costs

@@ -100,10 +100,10 @@ done_on r s v u up are is was has = go (same_or_not u v) was
 
 -- ---- VOLTYPEs
 
-named_before : (r s : Records) (v : Id) → ((u : Id) → HasChain r u) → ArePartlyRewritten r s → IsNamed s v → IsNamed r v
+pub named_before : (r s : Records) (v : Id) → ((u : Id) → HasChain r u) → ArePartlyRewritten r s → IsNamed s v → IsNamed r v
 named_before r s v chains are is = (is.0, over_before r s is.0 v (chains is.0) are is.1)
 
-named_after : (r s : Records) (v : Id) → ArePartlyRewritten r s → IsNamed r v → IsNamed s v
+pub named_after : (r s : Records) (v : Id) → ArePartlyRewritten r s → IsNamed r v → IsNamed s v
 named_after r s v are is = (is.0, over_after r s is.0 v are is.1)
 
 pub right_before : (r s : Records) (v : Id) (t : VolType) → ((u : Id) → HasChain r u) → ArePartlyRewritten r s → IsRightType s v t → IsRightType r v t

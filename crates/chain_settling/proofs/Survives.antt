@@ -51,20 +51,33 @@ use Rattle.chain_settling.specs.declared.stages.Stage.TheVariants.{Tidying, Leng
 use Rattle.chain_settling.specs.declared.stages.Stage.TheVariants as stages
 use Rattle.chain_settling.proofs.Alike.{AreKept, said_same}
 use Rattle.chain_settling.proofs.Grows.{nat_cases}
-use Rattle.chain_settling.proofs.Kept.{at_place, files_kept, image_kept_on, long_kept, settled_kept, whole_kept}
+use Rattle.chain_settling.proofs.Kept.{LayersStay, files_on, image_kept_on, layers_stay, long_kept, rest_on, settled_kept, whole_kept}
 use Rattle.chain_settling.proofs.Known.{find_layer}
-use Rattle.chain_settling.proofs.Writes.{rest_kept}
 
 -- a name of the folder stays taken, or free
-abbrev SameNames : Dir → Content → Content → Type 0
+abbrev pub SameNames : Dir → Content → Content → Type 0
 SameNames dir d e = (o : Temporary) → IsAlso (λ f g. Unit {0}) (d.file (temporary_in dir o)) (e.file (temporary_in dir o))
 
--- the image's folder is there as it was, its volumes' texts and files too, and its temporary names are taken as they were
-record Leaves (dir : Dir) (d e : Content) : Type 0 where
-  formed : IsWellFormed d → IsWellFormed e
-  there : e.dir dir ≡ d.dir dir
-  kept : AreKept dir d e
-  names : SameNames dir d e
+-- the image's folder is there as it was, its volumes' texts and the files of its layers too, its temporary names are taken as
+-- they were, and the image is known
+pub record Leaves (c : Chain) (r : Records) (x : Volumes) (d e : Content) : Type 0 where
+  pub formed : IsWellFormed d → IsWellFormed e
+  pub there : e.dir (folder_in c) ≡ d.dir (folder_in c)
+  pub image : KnowsImage c r x d → KnowsImage c r x e
+  pub texts : (v : Id) → e.file (text_in (folder_in c) v) ≡ d.file (text_in (folder_in c) v)
+  pub layers : LayersStay c d e
+  pub names : SameNames (folder_in c) d e
+
+-- so it is where the volumes' texts and files stay
+leaves_kept : (c : Chain) (r : Records) (x : Volumes) (d e : Content) → (IsWellFormed d → IsWellFormed e) → e.dir (folder_in c) ≡ d.dir (folder_in c) → AreKept (folder_in c) d e → SameNames (folder_in c) d e → Leaves c r x d e
+leaves_kept c r x d e formed there kept names = record {
+  formed = formed;
+  there = there;
+  image = λ k. image_kept_on c r x d e there kept k;
+  texts = kept.texts;
+  layers = layers_stay c d e kept.files;
+  names = names;
+}
 
 -- ---- temporary names
 
@@ -84,11 +97,11 @@ left_before dir d e names o left =
 tidy_on : (dir : Dir) (d e : Content) → SameNames dir d e → IsTidy dir d → IsTidy dir e
 tidy_on dir d e names tidy o = still_none (d.file (temporary_in dir o)) (e.file (temporary_in dir o)) (names o) (tidy o)
 
-stage_on : (s : TidyingStage) (dir : Dir) (d e : Content) → Leaves dir d e → tidying.KnowsStage s dir d → tidying.KnowsStage s dir e
+stage_on : (s : TidyingStage) (dir : Dir) (d e : Content) → (e.dir dir ≡ d.dir dir) × SameNames dir d e → tidying.KnowsStage s dir d → tidying.KnowsStage s dir e
 stage_on (Listing after) dir d e on k =
-    (record { there = on.there ∙ k.0.there; ids = λ o left. k.0.ids o (left_before dir d e on.names o left) }, λ o left. k.1 o (left_before dir d e on.names o left))
+    (record { there = on.0 ∙ k.0.there; ids = λ o left. k.0.ids o (left_before dir d e on.1 o left) }, λ o left. k.1 o (left_before dir d e on.1 o left))
 stage_on (Removing p) dir d e on k =
-    (record { there = on.there ∙ k.0.there; ids = λ o left. k.0.ids o (left_before dir d e on.names o left) }, λ o left. k.1 o (left_before dir d e on.names o left))
+    (record { there = on.0 ∙ k.0.there; ids = λ o left. k.0.ids o (left_before dir d e on.1 o left) }, λ o left. k.1 o (left_before dir d e on.1 o left))
 
 long_on : (l : Lengthening) (m : Layer) (host : ℕ) (d e : Content) → e.file (place_kept m) ≡ d.file (place_kept m) → lengthening.Knows l m host d → lengthening.Knows l m host e
 long_on Asking m host d e same k = long_kept host m d e same k
@@ -96,17 +109,17 @@ long_on (Growing bytes) m host d e same k = record { long = record { file = k.lo
 
 -- ---- stage by stage
 
-heading_on : (c : Chain) (at : ℕ) (h : Rebasing) (host : ℕ) (r : Records) (x : Volumes) (d e : Content) → Leaves (folder_in c) d e → KnowsHeading c at h host r x d → KnowsHeading c at h host r x e
+heading_on : (c : Chain) (at : ℕ) (h : Rebasing) (host : ℕ) (r : Records) (x : Volumes) (d e : Content) → Leaves c r x d e → KnowsHeading c at h host r x d → KnowsHeading c at h host r x e
 heading_on c at h host r x d e on k = record {
-  image = image_kept_on c r x d e on.there on.kept k.image;
-  said = λ v. said_same (image_kept c) (folder_in c) v d e (on.kept.texts v) ∙ k.said v;
+  image = on.image k.image;
+  said = λ v. said_same (image_kept c) (folder_in c) v d e (on.texts v) ∙ k.said v;
   tidy = tidy_on (folder_in c) d e on.names k.tidy;
   formed = on.formed k.formed;
   layer = k.layer;
   is = k.is;
   place = k.place;
   file = k.file;
-  there = subst (λ (p : Place). e.file p ≡ d.file p) (sym k.place) (on.kept.files (volume_kept k.layer)) ∙ k.there;
+  there = on.layers at k.layer k.is k.place ∙ k.there;
   knows = k.knows;
   heads = k.heads;
   cow = k.cow;
@@ -119,69 +132,70 @@ heading_on c at h host r x d e on k = record {
 }
   where
     same : (b : ℕ) (l : Layer) → b ≢ at → IsLayerAt c b l → e.file (place_kept l) ≡ d.file (place_kept l)
-    same b l other is = subst (λ (p : Place). e.file p ≡ d.file p) (sym (k.others b l other is).place) (on.kept.files (volume_kept l))
+    same b l other is = on.layers b l is (k.others b l other is).place
 
-writing_on : (c : Chain) (p : Part) (i : ℕ) (w : TextWrite) (host : ℕ) (r : Records) (x : Volumes) (d e : Content) → Leaves (folder_in c) d e
+writing_on : (c : Chain) (p : Part) (i : ℕ) (w : TextWrite) (host : ℕ) (r : Records) (x : Volumes) (d e : Content) → Leaves c r x d e
     → (k : KnowsWriting c p i w host r x d) → text.Knows w host k.says e → KnowsWriting c p i w host r x e
 writing_on c p i w host r x d e on k write = record {
-  image = image_kept_on c r x d e on.there on.kept k.image;
+  image = on.image k.image;
   volume = k.volume;
   at = k.at;
   says = k.says;
   is = k.is;
+  wrong = k.wrong;
   file = k.file;
   volatile = k.volatile;
   version = k.version;
-  said = λ v other. said_same (image_kept c) (folder_in c) v d e (on.kept.texts v) ∙ k.said v other;
+  said = λ v other. said_same (image_kept c) (folder_in c) v d e (on.texts v) ∙ k.said v other;
   tidy = λ o other. still_none (d.file (temporary_in (folder_in c) o)) (e.file (temporary_in (folder_in c) o)) (on.names o) (k.tidy o other);
-  rest = rest_kept c host d e on.kept.files k.rest;
+  rest = rest_on c host d e on.layers k.rest;
   told = k.told;
   done = k.done;
   write = write;
 }
 
 -- what is left of the file beside a text that is written
-abbrev WriteStays : Stage → ℕ → Records → Volumes → Content → Content → Type 0
+abbrev pub WriteStays : Stage → ℕ → Records → Volumes → Content → Content → Type 0
 WriteStays (Writing c p i w) host r x d e = (k : KnowsWriting c p i w host r x d) → text.Knows w host k.says e
 WriteStays s host r x d e = Unit {0}
 
-stays : (s : Stage) (host : ℕ) (r : Records) (x : Volumes) (d e : Content) → Leaves (folder_in (chain_in s)) d e → WriteStays s host r x d e → KnowsStage s host r x d → KnowsStage s host r x e
+pub stays : (s : Stage) (host : ℕ) (r : Records) (x : Volumes) (d e : Content) → Leaves (chain_in s) r x d e → WriteStays s host r x d e → KnowsStage s host r x d → KnowsStage s host r x e
 stays (Tidying c t) host r x d e on w k = record {
-  files = files_kept c host r x d e on.there on.kept k.files;
+  files = files_on c host r x d e (on.image k.files.image) on.texts on.layers k.files;
   folder = k.folder;
-  long = λ b l low is. long_kept host l d e (at_place c host d e k.files.layers on.kept b l is) (k.long b l low is);
-  names = stage_on (tidying.stage_of t) (tidying.folder_of t) d e (subst (λ (dir : Dir). Leaves dir d e) (sym k.folder) on) k.names;
+  long = λ b l low is. long_kept host l d e (on.layers b l is (k.files.layers.each b l is).place) (k.long b l low is);
+  names = stage_on (tidying.stage_of t) (tidying.folder_of t) d e (subst (λ (dir : Dir). (e.dir dir ≡ d.dir dir) × SameNames dir d e) (sym k.folder) (on.there, on.names)) k.names;
 }
 stays (Lengths c at) host r x d e on w k = record {
-  files = files_kept c host r x d e on.there on.kept k.files;
+  files = files_on c host r x d e (on.image k.files.image) on.texts on.layers k.files;
   tidy = tidy_on (folder_in c) d e on.names k.tidy;
   formed = on.formed k.formed;
-  long = λ b l low is. long_kept host l d e (at_place c host d e k.files.layers on.kept b l is) (k.long b l low is);
-  whole = λ b l low is. whole_kept host l d e (at_place c host d e k.files.layers on.kept b l is) (k.whole b l low is);
+  long = λ b l low is. long_kept host l d e (on.layers b l is (k.files.layers.each b l is).place) (k.long b l low is);
+  whole = λ b l low is. whole_kept host l d e (on.layers b l is (k.files.layers.each b l is).place) (k.whole b l low is);
 }
 stays (stages.Lengthening c at l) host r x d e on w k = record {
-  files = files_kept c host r x d e on.there on.kept k.files;
+  files = files_on c host r x d e (on.image k.files.image) on.texts on.layers k.files;
   tidy = tidy_on (folder_in c) d e on.names k.tidy;
-  long = λ b m low is. long_kept host m d e (at_place c host d e k.files.layers on.kept b m is) (k.long b m low is);
-  whole = λ b m low is. whole_kept host m d e (at_place c host d e k.files.layers on.kept b m is) (k.whole b m low is);
+  long = λ b m low is. long_kept host m d e (on.layers b m is (k.files.layers.each b m is).place) (k.long b m low is);
+  whole = λ b m low is. whole_kept host m d e (on.layers b m is (k.files.layers.each b m is).place) (k.whole b m low is);
   layer = k.layer;
   is = k.is;
-  here = long_on l k.layer host d e (at_place c host d e k.files.layers on.kept at k.layer k.is) k.here;
+  here = long_on l k.layer host d e (on.layers at k.layer k.is (k.files.layers.each at k.layer k.is).place) k.here;
 }
 stays (Headers c at) host r x d e on w k = record {
-  image = image_kept_on c r x d e on.there on.kept k.image;
-  said = λ v. said_same (image_kept c) (folder_in c) v d e (on.kept.texts v) ∙ k.said v;
+  image = on.image k.image;
+  said = λ v. said_same (image_kept c) (folder_in c) v d e (on.texts v) ∙ k.said v;
   tidy = tidy_on (folder_in c) d e on.names k.tidy;
   formed = on.formed k.formed;
-  rest = rest_kept c host d e on.kept.files k.rest;
+  rest = rest_on c host d e on.layers k.rest;
   told = k.told;
 }
 stays (Heading c at h) host r x d e on w k = heading_on c at h host r x d e on k
 stays (Texts c p i) host r x d e on w k = record {
-  image = image_kept_on c r x d e on.there on.kept k.image;
-  said = λ v. said_same (image_kept c) (folder_in c) v d e (on.kept.texts v) ∙ k.said v;
+  image = on.image k.image;
+  said = λ v. said_same (image_kept c) (folder_in c) v d e (on.texts v) ∙ k.said v;
   tidy = tidy_on (folder_in c) d e on.names k.tidy;
-  rest = rest_kept c host d e on.kept.files k.rest;
+  rest = rest_on c host d e on.layers k.rest;
   told = k.told;
   done = k.done;
 }
@@ -189,7 +203,7 @@ stays (Writing c p i t) host r x d e on w k = writing_on c p i t host r x d e on
 
 -- ---- where the folder's files stay
 
-also_itself : (a b : Option File) → b ≡ a → IsAlso (λ f g. Unit {0}) a b
+pub also_itself : (a b : Option File) → b ≡ a → IsAlso (λ f g. Unit {0}) a b
 also_itself None b same = subst (λ (o : Option File). IsAlso (λ f g. Unit {0}) None o) (sym same) tt
 also_itself (Some f) b same = subst (λ (o : Option File). IsAlso (λ f g. Unit {0}) (Some f) o) (sym same) tt
 
@@ -202,19 +216,17 @@ ready_on replacing.Synced host bytes p d e same k = (k.0, same ∙ k.1, k.2)
 
 module _ (s : Stage) (host : ℕ) (r : Records) (x : Volumes) (d e : Content) (formed : IsWellFormed e) (there : e.dir (folder_in (chain_in s)) ≡ d.dir (folder_in (chain_in s)))
     (same : (q : Place) → q.dir ≡ folder_in (chain_in s) → e.file q ≡ d.file q) where
-  leaves : Leaves (folder_in (chain_in s)) d e
-  leaves = record {
-    formed = λ _. formed;
-    there = there;
-    kept = record { texts = λ v. same (text_in (folder_in (chain_in s)) v) refl; files = λ v. same (file_in (folder_in (chain_in s)) v) refl };
-    names = λ o. also_itself (d.file (temporary_in (folder_in (chain_in s)) o)) (e.file (temporary_in (folder_in (chain_in s)) o)) (same (temporary_in (folder_in (chain_in s)) o) refl);
-  }
+  leaves : Leaves (chain_in s) r x d e
+  leaves =
+      leaves_kept (chain_in s) r x d e (λ _. formed) there
+      (record { texts = λ v. same (text_in (folder_in (chain_in s)) v) refl; files = λ v. same (file_in (folder_in (chain_in s)) v) refl })
+      (λ o. also_itself (d.file (temporary_in (folder_in (chain_in s)) o)) (e.file (temporary_in (folder_in (chain_in s)) o)) (same (temporary_in (folder_in (chain_in s)) o) refl))
 
-write_same : (s : Stage) (host : ℕ) (r : Records) (x : Volumes) (d e : Content) → e.dir (folder_in (chain_in s)) ≡ d.dir (folder_in (chain_in s))
-    → ((q : Place) → q.dir ≡ folder_in (chain_in s) → e.file q ≡ d.file q) → WriteStays s host r x d e
+pub write_same : (s : Stage) (host : ℕ) (r : Records) (x : Volumes) (d e : Content) → e.dir (folder_in (chain_in s)) ≡ d.dir (folder_in (chain_in s))
+    → ((v : Id) → e.file (text.new_place (folder_in (chain_in s)) v) ≡ d.file (text.new_place (folder_in (chain_in s)) v)) → WriteStays s host r x d e
 write_same (Writing c p i w) host r x d e there same = λ k. record {
   folder = ap (λ (q : Place). e.dir q.dir) k.file ∙ there ∙ sym (ap (λ (q : Place). d.dir q.dir) k.file) ∙ k.write.folder;
-  ready = ready_on (text.stage_of w) host (volume_text (text.version_of w) k.says) (text.volatile_of w) d e (same (text.volatile_of w) (ap (λ (q : Place). q.dir) k.volatile)) k.write.ready;
+  ready = ready_on (text.stage_of w) host (volume_text (text.version_of w) k.says) (text.volatile_of w) d e (subst (λ (q : Place). e.file q ≡ d.file q) (sym k.volatile) (same k.volume)) k.write.ready;
 }
 write_same (Tidying c t) host r x d e there same = tt
 write_same (Lengths c at) host r x d e there same = tt
@@ -225,7 +237,7 @@ write_same (Texts c p i) host r x d e there same = tt
 
 pub untouched_knows : (s : Stage) (host : ℕ) (r : Records) (x : Volumes) (d e : Content) → IsWellFormed e → e.dir (folder_in (chain_in s)) ≡ d.dir (folder_in (chain_in s))
     → ((q : Place) → q.dir ≡ folder_in (chain_in s) → e.file q ≡ d.file q) → KnowsStage s host r x d → KnowsStage s host r x e
-untouched_knows s host r x d e formed there same k = stays s host r x d e (leaves s host r x d e formed there same) (write_same s host r x d e there same) k
+untouched_knows s host r x d e formed there same k = stays s host r x d e (leaves s host r x d e formed there same) (write_same s host r x d e there (λ v. same (text.new_place (folder_in (chain_in s)) v) refl)) k
 
 -- ---- where another host goes down
 
@@ -333,13 +345,11 @@ down_knows s host other r x d e apart down k = stays s host r x d e on (write_do
     alone : AreAlone (folder_in (chain_in s)) host d
     alone = stage_alone s host r x d k
 
-    on : Leaves (folder_in (chain_in s)) d e
-    on = record {
-      formed = λ formed. down_keeps d e other formed down;
-      there = down.dirs (folder_in (chain_in s));
-      kept = record {
-        texts = λ v. alone_same (text_in (folder_in (chain_in s)) v) host other d e apart down (alone.texts v);
-        files = λ v. alone_same (file_in (folder_in (chain_in s)) v) host other d e apart down (alone.files v);
-      };
-      names = λ o. also_down other (d.file (temporary_in (folder_in (chain_in s)) o)) (e.file (temporary_in (folder_in (chain_in s)) o)) (down.files (temporary_in (folder_in (chain_in s)) o));
-    }
+    on : Leaves (chain_in s) r x d e
+    on =
+        leaves_kept (chain_in s) r x d e (λ formed. down_keeps d e other formed down) (down.dirs (folder_in (chain_in s)))
+        (record {
+          texts = λ v. alone_same (text_in (folder_in (chain_in s)) v) host other d e apart down (alone.texts v);
+          files = λ v. alone_same (file_in (folder_in (chain_in s)) v) host other d e apart down (alone.files v);
+        })
+        (λ o. also_down other (d.file (temporary_in (folder_in (chain_in s)) o)) (e.file (temporary_in (folder_in (chain_in s)) o)) (down.files (temporary_in (folder_in (chain_in s)) o)))

@@ -122,7 +122,7 @@ over_there r v p (w ∷ ws) below has = go (is_passed r w) refl
     go true t = up_reached r v (w ∷ ws) below (w, below.0, t)
     go false t = (w, (w ∷ ws, below, up_kept r w ws t))
 
-up_among : (r : Records) (w : Id) (vs : List Id) → up_of r vs ≡ Some w → Contains (counting r vs) w
+pub up_among : (r : Records) (w : Id) (vs : List Id) → up_of r vs ≡ Some w → Contains (counting r vs) w
 up_among r w vs e = go (counting r vs) e
   where
     go : (us : List Id) → slice_get us 0 ≡ Some w → Contains us w

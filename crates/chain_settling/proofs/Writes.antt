@@ -38,29 +38,13 @@ use Rattle.chain_settling.specs.Was.{file_in, folder_in, image_kept, text_in}
 use Rattle.chain_settling.specs.Fit.{StageTurn}
 use Rattle.chain_settling.specs.Knowing.{KnowsRest, KnowsSettled, KnowsTexts, KnowsWriting}
 use Rattle.chain_settling.specs.Steps.{IsLayerStep, IsOther, KnowsStage, Settles}
-use Rattle.chain_settling.specs.Work.{IsLayerAt, record_at}
+use Rattle.chain_settling.specs.Work.{IsLayerAt, IsRight, record_at}
 use Rattle.chain_settling.specs.declared.stages.Part.{Part}
 use Rattle.chain_settling.specs.declared.stages.Stage.TheVariants.{Texts, Writing}
+use Rattle.chain_settling.proofs.Kept.{layers_stay, rest_on}
 use Rattle.chain_settling.proofs.OpensAlike.{opens_kept}
 use Rattle.chain_settling.proofs.UpNames.{opens_written}
 use Rattle.chain_settling.proofs.Alike.{IsWritten, alike_kept, alike_written, alone_kept, no_step, said_record, said_same, same_or_not}
-
--- ---- what is known of layers stays where their files do
-
-pub rest_kept : (c : Chain) (host : ℕ) (d e : Content) → ((v : Id) → e.file (file_in (folder_in c) v) ≡ d.file (file_in (folder_in c) v)) → KnowsRest c host d → KnowsRest c host e
-rest_kept c host d e same k = record {
-  layers = record { each = λ at l is. layer at l (k.layers.each at l is); apart = k.layers.apart };
-  whole = λ b l is. whole b l (k.layers.each b l is) (k.whole b l is);
-}
-  where
-    there : (l : Layer) → KnowsSettled c l host d → e.file (place_kept l) ≡ d.file (place_kept l)
-    there l known = subst (λ (p : Place). e.file p ≡ d.file p) (sym known.place) (same (volume_kept l))
-
-    layer : (at : ℕ) (l : Layer) → KnowsSettled c l host d → KnowsSettled c l host e
-    layer at l known = record { place = known.place; file = known.file; there = there l known ∙ known.there; knows = known.knows; settled = known.settled }
-
-    whole : (b : ℕ) (l : Layer) → KnowsSettled c l host d → IsWhole l host d → IsWhole l host e
-    whole b l known is = record { file = is.file; there = there l known ∙ is.there; knows = is.knows; whole = is.whole }
 
 -- ---- the volume at a place of the list
 
@@ -115,6 +99,9 @@ module _ (c : Chain) (p : Part) (i : ℕ) (w : TextWrite) (host faults : ℕ) (r
 
   texts_same : (u : Id) → u ≢ k.volume → e.file (text_in dir u) ≡ d.file (text_in dir u)
   texts_same u other = elsewhere (text_in dir u) (text_not_text dir u k.volume other) (text_not_new dir u k.volume)
+
+  pub right : (v : Id) → IsRight r v → e.file (text_in dir v) ≡ d.file (text_in dir v)
+  right v ok = texts_same v (λ same. k.wrong (subst (λ (u : Id). IsRight r u) same ok))
 
   pub outside : (q : Place) → q.dir ≢ dir → e.file q ≡ d.file q
   outside q other = elsewhere q (λ same. other (ap (λ (z : Place). z.dir) same)) (λ same. other (ap (λ (z : Place). z.dir) same))
@@ -195,12 +182,13 @@ module _ (c : Chain) (p : Part) (i : ℕ) (w : TextWrite) (host faults : ℕ) (r
     at = k.at;
     says = k.says;
     is = k.is;
+    wrong = k.wrong;
     file = same.replace.target ∙ k.file;
     volatile = same.replace.volatile ∙ k.volatile;
     version = same.version ∙ k.version;
     said = said_but;
     tidy = tidy_but;
-    rest = rest_kept c host d e files_same k.rest;
+    rest = rest_on c host d e (layers_stay c d e files_same) k.rest;
     told = k.told;
     done = k.done;
     write = write;
@@ -212,7 +200,7 @@ module _ (c : Chain) (p : Part) (i : ℕ) (w : TextWrite) (host faults : ℕ) (r
     image = image;
     said = λ u. at u (same_or_not u k.volume);
     tidy = λ o. left o (new_or_not o k.volume);
-    rest = rest_kept c host d e files_same k.rest;
+    rest = rest_on c host d e (layers_stay c d e files_same) k.rest;
     told = k.told;
     done = k.done;
   }
@@ -248,6 +236,7 @@ writing_settles c p i w host faults turn d e same writes r x k = go turn same (w
       layers = each_step c p i w host faults r x (More next) d e k steps;
       alike = alike c p i w host faults r x (More next) d e k steps;
       opens = opens c p i w host faults r x (More next) d e k steps;
+      right = right c p i w host faults r x (More next) d e k steps;
       after = goes_on c p i w host faults r x (More next) d e k steps next same steps.after;
     }
     go (Done u) same steps = record {
@@ -258,6 +247,7 @@ writing_settles c p i w host faults turn d e same writes r x k = go turn same (w
       layers = each_step c p i w host faults r x (Done u) d e k steps;
       alike = alike c p i w host faults r x (Done u) d e k steps;
       opens = opens c p i w host faults r x (Done u) d e k steps;
+      right = right c p i w host faults r x (Done u) d e k steps;
       after = ends c p i w host faults r x (Done u) d e k steps (steps.after.0 (k.image.legible k.volume k.says k.is).legible) steps.after.1;
     }
     go (Ended u refusal) same steps = record {
@@ -268,5 +258,6 @@ writing_settles c p i w host faults turn d e same writes r x k = go turn same (w
       layers = each_step c p i w host faults r x (Ended u refusal) d e k steps;
       alike = alike c p i w host faults r x (Ended u refusal) d e k steps;
       opens = opens c p i w host faults r x (Ended u refusal) d e k steps;
+      right = right c p i w host faults r x (Ended u refusal) d e k steps;
       after = steps.after.0;
     }

@@ -35,7 +35,7 @@ use Rattle.volume_chain.specs.declared.chain.Chain.{Chain}
 use Rattle.chain_settling.specs.Alike.{AreSaid, AreSaidBut, IsCow, KnowsImage}
 use Rattle.chain_settling.specs.Reopening.{named_in}
 use Rattle.chain_settling.specs.Was.{file_in, folder_in}
-use Rattle.chain_settling.specs.Work.{IsLayerAt, IsRightType}
+use Rattle.chain_settling.specs.Work.{IsLayerAt, IsRight, IsRightType}
 use Rattle.chain_settling.specs.declared.stages.Part.{Part}
 use Rattle.chain_settling.specs.declared.stages.Part.TheVariants.{Parents, Types}
 
@@ -112,6 +112,7 @@ pub record KnowsWriting (c : Chain) (p : Part) (i : ℕ) (w : TextWrite) (host :
   pub at : slice_get (ids_of (records_kept c)) i ≡ Some volume
   pub says : VolumeRecord
   pub is : records_in (records_kept c) volume ≡ Some says
+  pub wrong : IsRight r volume → ⊥
   pub file : text.file_of w ≡ text.text_place (folder_in c) volume
   pub volatile : text.volatile_of w ≡ text.new_place (folder_in c) volume
   pub version : text.version_of w ≡ version_of c

@@ -32,7 +32,7 @@ use Rattle.chain_settling.specs.Was.{folder_in, image_kept, text_in}
 use Rattle.chain_settling.specs.Fit.{StageTurn, chain_in}
 use Rattle.chain_settling.specs.Left.{MeetsAt}
 use Rattle.chain_settling.specs.Knowing.{IsSettledImage, KnowsHeaders, KnowsHeading, KnowsLengthening, KnowsLengths, KnowsTexts, KnowsTidying, KnowsWriting}
-use Rattle.chain_settling.specs.Work.{IsLayerAt}
+use Rattle.chain_settling.specs.Work.{IsLayerAt, IsRight}
 use Rattle.chain_settling.specs.declared.stages.Stage.{Stage}
 use Rattle.chain_settling.specs.declared.stages.Stage.TheVariants.{Tidying, Lengths, Headers, Heading, Texts, Writing}
 use Rattle.chain_settling.specs.declared.stages.Stage.TheVariants as stages
@@ -59,12 +59,13 @@ abbrev pub IsLayerStep : Layer → File → File → Type 0
 IsLayerStep l f g = IsGrownFile f g ⊎ ((g.size ≡ f.size) × (b : Backing) × ComesBy (IsOldOrOver (header_kept l) b (capacity_kept l)) f g)
 
 -- The name that a step lists is in the folder. No folder is changed, and no file but texts, temporary texts and the files of the path's layers, all in the image's folder;
--- and the image reads alike on each outcome, and opens alike. A refusal is the disk's fault.
+-- a text that has to change in nothing stays; and the image reads alike on each outcome, and opens alike. A refusal is the disk's fault.
 pub record Settles (s : Stage) (host faults : ℕ) (r : Records) (x : Volumes) (turn : StageTurn) (d e : Content) : Type 0 where
   pub shows : MeetsAt (IsShown (folder_in (chain_in s)) d) s turn
   pub dirs : (q : Dir) → e.dir q ≡ d.dir q
   pub others : (q : Place) → q.dir ≢ folder_in (chain_in s) → e.file q ≡ d.file q
   pub kept : (q : Place) → IsOther (chain_in s) q → e.file q ≡ d.file q
+  pub right : (v : Id) → IsRight r v → e.file (text_in (folder_in (chain_in s)) v) ≡ d.file (text_in (folder_in (chain_in s)) v)
   pub layers : (b : ℕ) (l : Layer) → IsLayerAt (chain_in s) b l → IsAlso (IsLayerStep l) (d.file (place_kept l)) (e.file (place_kept l))
   pub alike : ReadsAlike (image_kept (chain_in s)) (folder_in (chain_in s)) r x e
   pub opens : OpensAlike (image_kept (chain_in s)) (folder_in (chain_in s)) r x e

@@ -84,6 +84,11 @@ pub record IsRightType (r : Records) (v : Id) (t : VolType) : Type 0 where
   pub internal : is_legal r v ≡ true → IsNamed r v → t ≡ voltype.Internal
   pub leaf : is_legal r v ≡ true → (IsNamed r v → ⊥) → t ≡ voltype.Leaf
 
+-- The text of a volume has to change in nothing: its parent isn't passed over, and its VOLTYPE is the one that it has to have.
+pub record IsRight (r : Records) (v : Id) : Type 0 where
+  pub parent : HasPassedParent r v → ⊥
+  pub voltype : (x : VolumeRecord) → r v ≡ Some x → IsRightType r v x.voltype
+
 abbrev pub IsTypeChange : Records → Id → Option Change → Type 0
 IsTypeChange r v None = (x : VolumeRecord) → r v ≡ Some x → IsRightType r v x.voltype
 IsTypeChange r v (Some (change.Parent up)) = ⊥

@@ -7,6 +7,7 @@ ghost use Rattle.sd_names.specs.declared.place.Place.{Place};
 ghost use Rattle.shared_disk.specs.Content.{Content};
 ghost use Rattle.shared_disk.specs.Crash.{DownLeaves, IsOutcome};
 ghost use Rattle.shared_disk.specs.NameCalls.{ShowsName};
+ghost use Rattle.shared_disk.specs.SectorCalls.{IsGrown};
 ghost use Rattle.chain_gathering.specs.Knowing.{AreSettled, volumes_in};
 ghost use Rattle.chain_gathering.specs.Names.{cost_of};
 ghost use Rattle.chain_gathering.specs.Steps.{IsShown};
@@ -23,12 +24,13 @@ ghost use Rattle.volume_chain.specs.Knowing.{KnowsChain};
 ghost use Rattle.volume_chain.specs.Stages.{IsOpen};
 ghost use Rattle.volume_chain.specs.declared.chain.Chain.{Chain};
 ghost use Rattle.chain_settling.specs.Alike.{HasTypeOf, ReadsAlike};
-ghost use Rattle.chain_settling.specs.Was.{folder_in, image_kept};
+ghost use Rattle.chain_settling.specs.Was.{IsOffLayers, file_in, folder_in, image_kept};
+ghost use Rattle.chain_settling.specs.Work.{IsRight};
 ghost use Rattle.chain_settling.specs.declared.settling.Settling.{Settling};
 ghost use Rattle.chain_settling.specs.Fit.{AreValid};
 ghost use Rattle.chain_settling.specs.Knowing.{HaveRoom, IsSettledImage};
 ghost use Rattle.chain_settling.specs.Left.{IsCost};
-ghost use Rattle.chain_settling.specs.Settling.{BeginsTidying, Knows, Meets, SettlingTurn, folder_of, steps_left};
+ghost use Rattle.chain_settling.specs.Settling.{BeginsTidying, Knows, Meets, SettlingTurn, chain_of, folder_of, steps_left};
 
 /// A law: where an image reads alike, it does so on each outcome: each text says its old record or a rewritten one, the
 /// reading volume is the same, and each LEGAL volume reads as it did.
@@ -51,11 +53,13 @@ pub fn open_chains_are_known()
 {}
 
 /// A law: what a settling knows stays known whatever else changes on the disk while the image's folder is there and each of
-/// its files stays, and where another host goes down.
+/// its files stays, where another host goes down, and where a volume's file gets longer that is no layer of the path.
 pub fn known_settlings_stay_known()
     ensures untouched { (s : Settling) (host : ℕ) (r : Records) (x : Volumes) (d e : Content) → IsWellFormed e → e.dir (folder_of s) ≡ d.dir (folder_of s)
         → ((q : Place) → q.dir ≡ folder_of s → e.file q ≡ d.file q) → Knows s host r x d → Knows s host r x e }
     ensures down { (s : Settling) (host other : ℕ) (r : Records) (x : Volumes) (d e : Content) → host ≢ other → DownLeaves d other e → Knows s host r x d → Knows s host r x e }
+    ensures grown { (s : Settling) (host size : ℕ) (r : Records) (x : Volumes) (v : Id) (d e : Content) → IsWellFormed d → IsWellFormed e → IsGrown d (file_in (folder_of s) v) size e → IsOffLayers (chain_of s) v
+        → Knows s host r x d → Knows s host r x e }
 {}
 
 /// A law: how many steps a settling takes. `falls` of its steps makes one number fall, where the names that are listed are paid
@@ -70,8 +74,10 @@ pub fn settlings_are_short()
 {}
 
 /// A law: the chain of a settled image is known as that of an opening, and nothing is unsynced in the files and texts of its
-/// volumes, so that a reader or a writer of the chain can begin. `Settling::step` keeps each record valid.
+/// volumes, so that a reader or a writer of the chain can begin. `Settling::step` keeps each record valid. No text of a settled
+/// image has to change, so another settling leaves each as it is.
 pub fn settled_chains_are_known()
     ensures known { (c : Chain) (host : ℕ) (r : Records) (x : Volumes) (d : Content) → IsSettledImage c host r x d → AreValid c → KnowsChain c host d }
     ensures settled { (c : Chain) (host : ℕ) (r : Records) (x : Volumes) (d : Content) → IsSettledImage c host r x d → AreSettled (folder_in c) d }
+    ensures right { (c : Chain) (host : ℕ) (r : Records) (x : Volumes) (d : Content) (v : Id) → IsSettledImage c host r x d → IsRight (records_of (image_kept c) (volumes_in (folder_in c) d)) v }
 {}

@@ -1,4 +1,5 @@
 use Rattle.chain_settling.specs.Settling.{stage_of}
+use Rattle.chain_settling.proofs.Grown.{grown_knows}
 use Rattle.chain_settling.proofs.Survives.{down_knows, untouched_knows}
 use Rattle.chain_settling.proofs.laws.known_settlings_stay_known.Goals as goal
 
@@ -7,3 +8,6 @@ returns-clause-untouched c s host r x d e formed there same k = untouched_knows 
 
 pub returns-clause-down : goal.returns-clause-down
 returns-clause-down c s host other r x d e apart down k = down_knows (stage_of s) host other r x d e apart down k
+
+pub returns-clause-grown : goal.returns-clause-grown
+returns-clause-grown c s host size r x v d e formed after grows off k = grown_knows (stage_of s) host r x size v d e formed after grows off k
