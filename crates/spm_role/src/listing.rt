@@ -1,5 +1,6 @@
 // What a pool lists, as its manager reads it.
-ghost use Rattle.std.specs.Prelude.{◌≡◌, ◌+◌, ◌-◌, ◌^◌, min, IfErr};
+ghost use Rattle.std.specs.Prelude.{◌≡◌, ◌+◌, ◌-◌, ◌^◌, min, true, IfErr, OnOk};
+ghost use Rattle.domain_meta.specs.Values.{is_rising};
 ghost use Rattle.shared_disk.specs.Calls.{Told};
 ghost use Rattle.shared_disk.specs.Step.{ResultCounts};
 ghost use Rattle.spm_role.specs.List.{IsSameManager, ListsPool};
@@ -26,6 +27,7 @@ impl Spm {
         ensures counted { D.calls disk.new ≡ min (D.calls disk.old + 1) (2 ^ 64 - 1) }
         ensures refusals { IfErr result IsTextRefusal }
         ensures same { IsSameManager self.old self.new }
+        ensures rising { OnOk result (is_rising (domains_of self.new) ≡ true) }
         ensures content { Told (D.content disk.old) (D.content disk.new) (ListsPool host (master_of self.old) (D.faults disk.new) result (domains_of self.old) (domains_of self.new)) }
     {
         match read_master(alloc, host, disk, self.master) {
