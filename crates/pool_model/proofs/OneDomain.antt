@@ -33,11 +33,11 @@ pub one_text : (d : Content) (sd : Id) (t u : Said) → HasDomainText d sd t →
 one_text d sd t u x y = sym x.2 ∙ ap (λ (text : List ℕ). read_domain sd text) (one_stored d (metadata_of sd) x.0 y.0 x.1 y.1) ∙ y.2
 
 -- what a domain's text is, where it is there
-abbrev TextIs : Content → Id → Option Said → Type 0
+abbrev pub TextIs : Content → Id → Option Said → Type 0
 TextIs d sd None = d.file (metadata_of sd) ≡ None
 TextIs d sd (Some t) = HasDomainText d sd t
 
-text_is : (up : Hosts) (d : Content) (p : Pool) (sd : Id) (o : Option DomainRecord) (s : Option Said) → DomainStands up d p sd o s → TextIs d sd (text_by o s)
+pub text_is : (up : Hosts) (d : Content) (p : Pool) (sd : Id) (o : Option DomainRecord) (s : Option Said) → DomainStands up d p sd o s → TextIs d sd (text_by o s)
 text_is up d p sd (Some r) s stands = stands.text
 text_is up d p sd None (Some t) stands = stands.text
 text_is up d p sd None None stands = stands.text
@@ -86,11 +86,11 @@ master_by up d p sd r (Some a) s lists is stands text role =
 master_by up d p sd r None (Some t) lists is stands text role = absurd (not_regular r.role role (stands.role r (said_is (Some t) t r refl text)))
 master_by up d p sd r None None lists is stands text role = absurd (no_said None r refl text)
 
-master_of : (up : Hosts) (d : Content) (p : Pool) (sd : Id) (r : DomainRecord) → Stands up d p → text_of p sd ≡ Some (Ok r) → r.role ≡ Master
+pub master_of : (up : Hosts) (d : Content) (p : Pool) (sd : Id) (r : DomainRecord) → Stands up d p → text_of p sd ≡ Some (Ok r) → r.role ≡ Master
     → p.master ≡ Some sd
 master_of up d p sd r stands = master_by up d p sd r (p.domain sd) (p.stray sd) stands.master refl (stands.domain sd)
 
-listed_text : (p : Pool) (sd : Id) (r : DomainRecord) → p.domain sd ≡ Some r → text_of p sd ≡ Some (Ok r)
+pub listed_text : (p : Pool) (sd : Id) (r : DomainRecord) → p.domain sd ≡ Some r → text_of p sd ≡ Some (Ok r)
 listed_text p sd r e = ap (λ (o : Option DomainRecord). text_by o (p.stray sd)) e
 
 -- the master of one is that of the other

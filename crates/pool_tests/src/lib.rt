@@ -1,4 +1,4 @@
-//! Tests of making a pool, of its manager's role and of its hosts, over disks in memory.
+//! Tests of making a pool, of its manager's role and its taking, and of its hosts, over disks in memory.
 #![tactic(auto)]
 
 #[cfg(test)]
@@ -9,3 +9,5 @@ mod making;
 mod role;
 #[cfg(test)]
 mod shared;
+#[cfg(test)]
+mod taking;

@@ -9,7 +9,7 @@ use std::alloc::Global;
 use std::test::Fail;
 
 // A pool on a disk that fails in this call, from 0; making it takes the calls 0 to 20.
-fn pool(alloc: Global, host: HostId, failing: u64) -> Result<Memory, NoMemory> {
+pub fn pool(alloc: Global, host: HostId, failing: u64) -> Result<Memory, NoMemory> {
     let mut list = Vec::new(alloc);
     if list.push(failing).is_err() {
         return Err(NoMemory);
@@ -129,7 +129,7 @@ fn a_role_that_is_gone_is_told(rt: HostRuntime) -> Result<(), Fail> {
 }
 
 // The text of a domain, with zeros to the sector's end, in place of the pool's.
-fn put_text(disk: &mut Memory, text: &[u8]) -> Result<(), NoMemory> {
+pub fn put_text(disk: &mut Memory, text: &[u8]) -> Result<(), NoMemory> {
     let mut sector = [0; 512];
     if text.len() <= 512 {
         sector[..text.len()].copy_from_slice(text);
@@ -148,10 +148,10 @@ const CHANGED: &[u8] =
     b"CLASS=Data\nDESCRIPTION=x\nMASTER_VERSION=1\nPOOL_DOMAINS=00000000-0000-4000-8000-000000000002:Active\nPOOL_UUID=00000000-0000-4000-8000-000000000001\nROLE=Master\nSDUUID=00000000-0000-4000-8000-000000000002\nVERSION=5\n_SHA_CKSUM=46e88711d22d8318aa83f22d3394d6dbac8534bc\n";
 
 // The pool's text with another domain, of which nothing but the entry is there.
-const OF_TWO: &[u8] =
+pub const OF_TWO: &[u8] =
     b"CLASS=Data\nDESCRIPTION=\nMASTER_VERSION=1\nPOOL_DOMAINS=00000000-0000-4000-8000-000000000002:Active,00000000-0000-4000-8000-000000000003:Active\nPOOL_UUID=00000000-0000-4000-8000-000000000001\nROLE=Master\nSDUUID=00000000-0000-4000-8000-000000000002\nVERSION=5\n_SHA_CKSUM=f1199c2643319156ddfcfd402e797b21e14fed52\n";
 
-const OTHER: Id = Id([0, 0, 0, 0, 0, 0, 0x40, 0, 0x80, 0, 0, 0, 0, 0, 0, 3]);
+pub const OTHER: Id = Id([0, 0, 0, 0, 0, 0, 0x40, 0, 0x80, 0, 0, 0, 0, 0, 0, 3]);
 
 // What a manager keeps of two lists that it reads, and of a text that is gone.
 fn lists_again(
