@@ -100,9 +100,9 @@ alike_written i dir r x v y d e own f text is typed written a = record {
 -- ---- files of layers
 
 -- a layer's file that stays
-pub no_step : (l : Layer) (o p : Option File) → p ≡ o → IsAlso (IsLayerStep l) o p
-no_step l None p same = subst (λ (q : Option File). IsAlso (IsLayerStep l) None q) (sym same) tt
-no_step l (Some f) p same = subst (λ (q : Option File). IsAlso (IsLayerStep l) (Some f) q) (sym same) (inl (inl refl))
+pub no_step : (r : Records) (l : Layer) (o p : Option File) → p ≡ o → IsAlso (IsLayerStep r l) o p
+no_step r l None p same = subst (λ (q : Option File). IsAlso (IsLayerStep r l) None q) (sym same) tt
+no_step r l (Some f) p same = subst (λ (q : Option File). IsAlso (IsLayerStep r l) (Some f) q) (sym same) (inl (inl refl))
 
 -- the files of volumes of which no layer is on the path stay alone
 pub alone_kept : (c : Chain) (x : Volumes) (d e : Content) → ((v : Id) → IsOffLayers c v → e.file (file_in (folder_in c) v) ≡ d.file (file_in (folder_in c) v)) → AreLeftAlone c x d → AreLeftAlone c x e

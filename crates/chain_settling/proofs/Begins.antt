@@ -257,7 +257,7 @@ id_at c i v is = slice_get-map (λ (y : Volume). y.id) (records_kept c) i ∙ ap
 nothing_done : (s : Stage) (host faults : ℕ) (r : Records) (x : Volumes) (turn : StageTurn) (d : Content) → MeetsAt (IsShown (folder_in (chain_in s)) d) s turn
     → ReadsAlike (image_kept (chain_in s)) (folder_in (chain_in s)) r x d → OpensAlike (image_kept (chain_in s)) (folder_in (chain_in s)) r x d
     → MatchTurn turn (λ next. KnowsStage next host r x d) (λ c. IsSettledImage c host r x d) (λ _ refusal. refusal ≡ DiskFault faults) → Settles s host faults r x turn d d
-nothing_done s host faults r x turn d shows alike opens after = record { shows = shows; dirs = λ q. refl; others = λ q _. refl; kept = λ q _. refl; layers = λ b l _. no_step l (d.file (place_kept l)) (d.file (place_kept l)) refl; alike = alike; opens = opens; right = λ v ok. refl; after = after }
+nothing_done s host faults r x turn d shows alike opens after = record { shows = shows; dirs = λ q. refl; others = λ q _. refl; kept = λ q _. refl; layers = λ b l _. no_step r l (d.file (place_kept l)) (d.file (place_kept l)) refl; alike = alike; opens = opens; right = λ v ok. refl; after = after }
 
 pub list_ends : (c : Chain) (p : Part) (i : ℕ) (turn : StageTurn) → length (records_kept c) ≤ i → IsEndTurn c p turn → (host faults : ℕ) (d : Content) → SettlesIn (Texts c p i) host faults turn d d
 list_ends c Parents i turn past is host faults d r x k =

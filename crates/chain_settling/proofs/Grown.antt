@@ -1,5 +1,5 @@
 -- What a settling knows survives growth of a volume's file that is no layer of the path.
-use Rattle.std.proofs.Common.{◌≡◌, ◌≢◌, ◌⊎◌, ℕ, ◌≤◌, Option, Some, None, refl, sym, ap, ◌∙◌, subst, inl, inr, arith}
+use Rattle.std.proofs.Common.{◌≡◌, ◌≢◌, ◌⊎◌, ℕ, Option, Some, None, refl, sym, ◌∙◌, subst, inl, inr, arith}
 use Rattle.sd_names.specs.declared.id.Id.{Id}
 use Rattle.sd_names.specs.declared.place.Dir.{Dir}
 use Rattle.sd_names.specs.declared.place.Place.{Place}
@@ -10,7 +10,6 @@ use Rattle.shared_disk.specs.SectorCalls.{IsGrown}
 use Rattle.shared_disk.specs.WellFormed.{IsWellFormed}
 use Rattle.shared_disk.proofs.Toolkit.{grown_settled}
 use Rattle.volume_meta.specs.declared.record.VolumeRecord.{VolumeRecord}
-use Rattle.volume_texts.specs.Write as text
 use Rattle.qcow_layer.specs.Opening.{place_kept, volume_kept}
 use Rattle.qcow_layer.specs.declared.layer.Layer.{Layer}
 use Rattle.settling_steps.specs.Leftovers.{temporary_in}

@@ -79,7 +79,7 @@ tidying_settles c t host faults turn d e formed leaves shows same r x k = record
   dirs = leaves.dirs;
   others = λ q other. leaves.others q (λ o e. other (ap (λ (z : Place). z.dir) e ∙ k.folder));
   kept = λ q other. leaves.others q (λ o e. other.temporary o (e ∙ ap (λ (dir : Dir). temporary_in dir o) k.folder));
-  layers = λ b l is. no_step l (d.file (place_kept l)) (e.file (place_kept l)) (at_place c host d e k.files.layers kept b l is);
+  layers = λ b l is. no_step r l (d.file (place_kept l)) (e.file (place_kept l)) (at_place c host d e k.files.layers kept b l is);
   alike = alike_kept (image_kept c) (folder_in c) r x d e kept k.files.image.alike;
   opens = opens_kept (image_kept c) (folder_in c) r x d e kept k.files.image.opens;
   right = λ v ok. kept.texts v;
@@ -227,17 +227,17 @@ module _ (c : Chain) (at : ℕ) (m : Layer) (l : Lengthening) (host faults : ℕ
   pub kept_others : (q : Place) → IsOther c q → e.file q ≡ d.file q
   kept_others q other = elsewhere q (other.layer at m is)
 
-  pub each_step : (b : ℕ) (n : Layer) → IsLayerAt c b n → IsAlso (IsLayerStep n) (d.file (place_kept n)) (e.file (place_kept n))
+  pub each_step : (b : ℕ) (n : Layer) → IsLayerAt c b n → IsAlso (IsLayerStep r n) (d.file (place_kept n)) (e.file (place_kept n))
   each_step b n at_b = go (nat_cases b at)
     where
-      own : IsAlso (IsLayerStep m) (d.file (place_kept m)) (e.file (place_kept m))
+      own : IsAlso (IsLayerStep r m) (d.file (place_kept m)) (e.file (place_kept m))
       own =
-          subst (λ (o : Option File). IsAlso (IsLayerStep m) o (e.file (place_kept m))) (sym known.there)
-          (subst (λ (o : Option File). IsAlso (IsLayerStep m) (Some known.file) o) (sym here.1) (inl here.2))
+          subst (λ (o : Option File). IsAlso (IsLayerStep r m) o (e.file (place_kept m))) (sym known.there)
+          (subst (λ (o : Option File). IsAlso (IsLayerStep r m) (Some known.file) o) (sym here.1) (inl here.2))
 
-      go : (b ≡ at) ⊎ (b ≢ at) → IsAlso (IsLayerStep n) (d.file (place_kept n)) (e.file (place_kept n))
-      go (inl same) = subst (λ (z : Layer). IsAlso (IsLayerStep z) (d.file (place_kept z)) (e.file (place_kept z))) (sym (one_layer n (subst (λ (i : ℕ). IsLayerAt c i n) same at_b))) own
-      go (inr other) = no_step n (d.file (place_kept n)) (e.file (place_kept n)) (other_place b n at_b other)
+      go : (b ≡ at) ⊎ (b ≢ at) → IsAlso (IsLayerStep r n) (d.file (place_kept n)) (e.file (place_kept n))
+      go (inl same) = subst (λ (z : Layer). IsAlso (IsLayerStep r z) (d.file (place_kept z)) (e.file (place_kept z))) (sym (one_layer n (subst (λ (i : ℕ). IsLayerAt c i n) same at_b))) own
+      go (inr other) = no_step r n (d.file (place_kept n)) (e.file (place_kept n)) (other_place b n at_b other)
 
   -- the layer knows its file still
   layers : ((f : File) × (e.file (place_kept m) ≡ Some f) × KnowsLayer m host f) → KnowsLayers c host e
@@ -352,7 +352,7 @@ lengths_go_on c at host faults d (Raw length) is r x k = record {
   dirs = λ q. refl;
   others = λ q _. refl;
   kept = λ q _. refl;
-  layers = λ b l _. no_step l (d.file (place_kept l)) (d.file (place_kept l)) refl;
+  layers = λ b l _. no_step r l (d.file (place_kept l)) (d.file (place_kept l)) refl;
   alike = k.files.image.alike;
   opens = k.files.image.opens;
   right = λ v ok. refl;
@@ -373,7 +373,7 @@ lengths_go_on c at host faults d (Cow m) is r x k = record {
   dirs = λ q. refl;
   others = λ q _. refl;
   kept = λ q _. refl;
-  layers = λ b l _. no_step l (d.file (place_kept l)) (d.file (place_kept l)) refl;
+  layers = λ b l _. no_step r l (d.file (place_kept l)) (d.file (place_kept l)) refl;
   alike = k.files.image.alike;
   opens = k.files.image.opens;
   right = λ v ok. refl;
@@ -395,7 +395,7 @@ lengths_end c at host faults d none r x k = record {
   dirs = λ q. refl;
   others = λ q _. refl;
   kept = λ q _. refl;
-  layers = λ b l _. no_step l (d.file (place_kept l)) (d.file (place_kept l)) refl;
+  layers = λ b l _. no_step r l (d.file (place_kept l)) (d.file (place_kept l)) refl;
   alike = k.files.image.alike;
   opens = k.files.image.opens;
   right = λ v ok. refl;
@@ -448,7 +448,7 @@ none_at c at is = go (slice_get (open_in c) at) refl is
 
 pub headers_turn : (c : Chain) (at : ℕ) (host faults : ℕ) (d : Content) (turn : StageTurn) → ((r : Records) (x : Volumes) → KnowsHeaders c at host r x d → MatchTurn turn (λ next. KnowsStage next host r x d) (λ z. IsSettledImage z host r x d) (λ _ refusal. refusal ≡ DiskFault faults))
     → (r : Records) (x : Volumes) → KnowsStage (stages.Headers c at) host r x d → Settles (stages.Headers c at) host faults r x turn d d
-headers_turn c at host faults d turn after r x k = record { shows = tt; dirs = λ q. refl; others = λ q _. refl; kept = λ q _. refl; layers = λ b l _. no_step l (d.file (place_kept l)) (d.file (place_kept l)) refl; alike = k.image.alike; opens = k.image.opens; right = λ v ok. refl; after = after r x k }
+headers_turn c at host faults d turn after r x k = record { shows = tt; dirs = λ q. refl; others = λ q _. refl; kept = λ q _. refl; layers = λ b l _. no_step r l (d.file (place_kept l)) (d.file (place_kept l)) refl; alike = k.image.alike; opens = k.image.opens; right = λ v ok. refl; after = after r x k }
 
 pub headers_end : (c : Chain) (at host : ℕ) (r : Records) (x : Volumes) (d : Content) → kind_at c at ≡ kind.End → KnowsHeaders c at host r x d → KnowsTexts c Parents 0 host r x d
 headers_end c at host r x d end k = record {

@@ -69,7 +69,7 @@ pub heading_opens : (c : Chain) (at : ℕ) (h : Rebasing) (host : ℕ) (r : Reco
 heading_opens c at h host r x d e k g is heads texts files =
     opens_but_one (image_kept c) (folder_in c) r x d e (volume_kept k.layer) k.file g (ap (λ (p : Place). d.file p) (sym k.place) ∙ k.there) (ap (λ (p : Place). e.file p) (sym k.place) ∙ is) texts files
     (λ t there was z out. sound_head k.layer (backing_of h) (r (volume_kept k.layer)) t z k.cow (heads z out))
-    (λ t there was z out. names_head c r x k.layer (backing_of h) (text_names (image_kept c) (folder_in c) d (volume_kept k.layer)) t z own.says own.is own.cow k.named there old k.over (heads z out)) k.image.opens
+    (λ t there was z out. names_head c r x k.layer (backing_of h) (text_names (image_kept c) (folder_in c) d (volume_kept k.layer)) t z own.says own.is own.cow k.named there old k.backs.0 (heads z out)) k.image.opens
   where
     own : OfPath c r k.layer
     own = layer_on c r x at k.layer k.image.was k.is

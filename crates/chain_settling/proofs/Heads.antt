@@ -61,7 +61,7 @@ use Rattle.chain_settling.proofs.Grows.{file_not_text, files_apart, nat_cases, t
 use Rattle.chain_settling.proofs.HeadNames.{IsHead}
 use Rattle.chain_settling.proofs.HeadOpens.{heading_opens, heads_after, named_before}
 use Rattle.chain_settling.proofs.Kept.{whole_kept}
-use Rattle.chain_settling.proofs.Plans.{over_before, over_one}
+use Rattle.chain_settling.proofs.Plans.{backing_before, over_one}
 use Rattle.chain_settling.proofs.Held.{held_alike}
 
 -- ---- a list of which an element is changed
@@ -281,19 +281,19 @@ module _ (c : Chain) (at : ℕ) (h : Rebasing) (after : Layer) (host faults : �
   pub kept_others : (q : Place) → IsOther c q → e.file q ≡ d.file q
   kept_others q other = elsewhere q (other.layer at k.layer k.is)
 
-  pub each_step : (b : ℕ) (l : Layer) → IsLayerAt c b l → IsAlso (IsLayerStep l) (d.file (place_kept l)) (e.file (place_kept l))
+  pub each_step : (b : ℕ) (l : Layer) → IsLayerAt c b l → IsAlso (IsLayerStep r l) (d.file (place_kept l)) (e.file (place_kept l))
   each_step b l is = go (nat_cases b at)
     where
-      own : IsAlso (IsLayerStep k.layer) (d.file (place_kept k.layer)) (e.file (place_kept k.layer))
+      own : IsAlso (IsLayerStep r k.layer) (d.file (place_kept k.layer)) (e.file (place_kept k.layer))
       own =
-          subst (λ (o : Option File). IsAlso (IsLayerStep k.layer) o (e.file (place_kept k.layer))) (sym k.there)
-          (subst (λ (o : Option File). IsAlso (IsLayerStep k.layer) (Some k.file) o) (sym here.1) (inr (here.2.size, backing_of h, here.2.comes)))
+          subst (λ (o : Option File). IsAlso (IsLayerStep r k.layer) o (e.file (place_kept k.layer))) (sym k.there)
+          (subst (λ (o : Option File). IsAlso (IsLayerStep r k.layer) (Some k.file) o) (sym here.1) (inr (here.2.size, backing_of h, k.backs, here.2.comes)))
 
-      go : (b ≡ at) ⊎ (b ≢ at) → IsAlso (IsLayerStep l) (d.file (place_kept l)) (e.file (place_kept l))
+      go : (b ≡ at) ⊎ (b ≢ at) → IsAlso (IsLayerStep r l) (d.file (place_kept l)) (e.file (place_kept l))
       go (inl same) =
           let one : k.layer ≡ l = let w : Some (Cow k.layer) ≡ Some (Cow l) = sym k.is ∙ ap (λ (i : ℕ). slice_get (open_in c) i) (sym same) ∙ is in cc in
-          subst (λ (z : Layer). IsAlso (IsLayerStep z) (d.file (place_kept z)) (e.file (place_kept z))) one own
-      go (inr other) = no_step l (d.file (place_kept l)) (e.file (place_kept l)) (other_place b l is other)
+          subst (λ (z : Layer). IsAlso (IsLayerStep r z) (d.file (place_kept z)) (e.file (place_kept z))) one own
+      go (inr other) = no_step r l (d.file (place_kept l)) (e.file (place_kept l)) (other_place b l is other)
 
   others : (b : ℕ) (l : Layer) → b ≢ at → IsLayerAt next b l → KnowsSettled next l host e
   others b l other is =
@@ -323,7 +323,7 @@ module _ (c : Chain) (at : ℕ) (h : Rebasing) (after : Layer) (host faults : �
     knows = subst (λ (z : Layer). heading.KnowsFile more z host here.0) (sym stays) knows;
     heads = subst (λ (b : Backing). OnEach here.0 (IsHeadOf after b)) (sym same) (subst (λ (z : Layer). OnEach here.0 (IsHeadOf z (backing_of h))) (sym stays) heads);
     cow = cow_here after refl;
-    over = subst (λ (b : Backing). IsOver r (volume_kept after) b.parent) (sym same) (subst (λ (u : Id). IsOver r u (backing_of h).parent) (sym volume) k.over);
+    backs = subst (λ (b : Backing). IsBackingFor r after (Some b)) (sym same) (subst (λ (z : Layer). IsBackingFor r z (Some (backing_of h))) (sym stays) k.backs);
     named = subst (λ (z : Layer). IsAsNamed next r x z) (sym stays) (record { text = k.named.text; header = k.named.header });
     told = λ b l low is. k.told b l low (at_other b l (λ one. omega (arith, low, one)) is);
     others = others;
@@ -335,7 +335,7 @@ module _ (c : Chain) (at : ℕ) (h : Rebasing) (after : Layer) (host faults : �
   ends knows settled parent = record { image = image; said = said; tidy = tidy; formed = formed; rest = record { layers = record { each = λ b l is. each b l is (nat_cases b at); apart = apart }; whole = λ b l is. whole b l is (nat_cases b at) }; told = λ b l low is. told b l low is (nat_cases b at) }
     where
       over : IsOver r (volume_kept after) (backing_of h).parent
-      over = subst (λ (u : Id). IsOver r u (backing_of h).parent) (sym volume) k.over
+      over = subst (λ (u : Id). IsOver r u (backing_of h).parent) (sym volume) k.backs.0
 
       told : (b : ℕ) (l : Layer) → b < at + 1 → IsLayerAt next b l → (b ≡ at) ⊎ (b ≢ at) → TellsUp r l
       told b l low is (inl same) up y above there =
@@ -446,7 +446,7 @@ heading_begins c at h host r x d m b is names begun by k = record {
   knows = subst (λ (s : RebasingStage). heading.KnowsIn s (backing_of h) m host known.file) (sym begun) quiet;
   heads = λ g out. inl (ap (λ (z : File). layer_header (on_medium z) (capacity_kept m)) (settled_file known.file g known.settled out) ∙ head);
   cow = k.image.cows at m is;
-  over = subst (λ (z : Backing). IsOver r (volume_kept m) z.parent) (sym by) (over_before r (records_in (records_kept c)) (volume_kept m) b.parent (k.image.chains (volume_kept m)) k.image.partly names.0);
+  backs = subst (λ (z : Backing). IsBackingFor r m (Some z)) (sym by) (backing_before r (records_in (records_kept c)) m b k.image.chains k.image.partly names);
   named = named_before c at host r x d m b is names k;
   told = k.told;
   others = λ b l other at_b. k.rest.layers.each b l at_b;

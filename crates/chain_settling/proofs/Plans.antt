@@ -2,12 +2,15 @@
 use Rattle.std.proofs.Common.{◌≡◌, ◌≢◌, ◌⊎◌, ℕ, ◌<◌, Bool, true, false, List, length, Option, Some, None, unwrap_or, refl, sym, ap, ◌∙◌, subst, inl, inr}
 use Rattle.std.specs.Prelude.{if◌then◌else◌, option_and_then, slice_get}
 use Rattle.std.specs.Option.{option_map}
-use Rattle.std.proofs.lemmas.Option.{same_Some, slice_get-get_or}
+use Rattle.std.proofs.lemmas.Option.{none-some, same_Some, slice_get-get_or}
 use Rattle.sd_names.specs.Id.{zero_id}
 use Rattle.sd_names.specs.declared.id.Id.{Id}
 use Rattle.sd_names.specs.declared.kinds.VolType.{VolType}
 use Rattle.shared_disk.specs.Places.{id_is}
 use Rattle.shared_disk.proofs.Places.{id_is-itself, id_is-same}
+use Rattle.layer_creating.specs.declared.backing.Backing.{Backing}
+use Rattle.qcow_layer.specs.Opening.{volume_kept}
+use Rattle.qcow_layer.specs.declared.layer.Layer.{Layer}
 use Rattle.volume_meta.specs.declared.record.VolumeRecord.{VolumeRecord}
 use Rattle.chain_model.proofs.Chains.{one_below, same_id}
 use Rattle.chain_model.specs.Chain.{IsBelow}
@@ -23,7 +26,7 @@ use Rattle.chain_records.proofs.Partly.{legal_alike, passed_alike, path_alike, s
 use Rattle.chain_records.proofs.Settled.{up_reached}
 use Rattle.chain_records.proofs.Stepwise.{named}
 use Rattle.chain_settling.specs.Knowing.{IsDone, IsTyped}
-use Rattle.chain_settling.specs.Work.{IsParentChange, IsRightType}
+use Rattle.chain_settling.specs.Work.{IsBackingFor, IsParentChange, IsRightType}
 use Rattle.chain_settling.proofs.Alike.{same_or_not}
 
 -- ---- the parent that counts, by the records as they are rewritten
@@ -141,3 +144,23 @@ place_of xs v y e =
 -- a volume has one parent that counts
 pub over_one : (r : Records) (v a b : Id) → IsOver r v a → IsOver r v b → a ≡ b
 over_one r v a b x y = same_id (up_of r x.0) a b x.2 (ap (λ (vs : List Id). up_of r vs) (one_below r v x.0 y.0 x.1 y.1) ∙ y.2)
+
+-- a record that is rewritten or not is there where it was, with the same format and capacity
+pub record Rewritten (o a : Option VolumeRecord) (z : VolumeRecord) : Type 0 where
+  pub was : VolumeRecord
+  pub is : o ≡ Some was
+  pub format : z.format ≡ was.format
+  pub capacity : z.capacity ≡ was.capacity
+
+pub record_was : (r : Records) (v : Id) (o a : Option VolumeRecord) (z : VolumeRecord) → (a ≡ o) ⊎ IsRewritten r v o a → a ≡ Some z → Rewritten o a z
+record_was r v o a z (inl same) e = record { was = z; is = sym same ∙ e; format = refl; capacity = refl }
+record_was r v None a z (inr is) e = absurd (none-some z (sym is ∙ e))
+record_was r v (Some y) a z (inr is) e =
+    let same = same_Some z (record y { parent = is.0; voltype = is.1 }) (sym e ∙ is.2) in
+    record { was = y; is = refl; format = ap (λ (q : VolumeRecord). q.format) same; capacity = ap (λ (q : VolumeRecord). q.capacity) same }
+
+-- what a header has to be made to name, by the records as they were
+pub backing_before : (r s : Records) (l : Layer) (b : Backing) → ((u : Id) → HasChain r u) → ArePartlyRewritten r s → IsBackingFor s l (Some b) → IsBackingFor r l (Some b)
+backing_before r s l b chains are is =
+    let below = record_was r b.parent (r b.parent) (s b.parent) is.2 (are b.parent) is.3 in
+    (over_before r s (volume_kept l) b.parent (chains (volume_kept l)) are is.0, is.1, below.was, below.is, is.4 ∙ below.format)

@@ -51,7 +51,7 @@ use Rattle.chain_settling.proofs.Known.{all_settled, also_there, chain_known}
 use Rattle.chain_settling.proofs.Listed.{ids_listed, listed, records_listed, shown}
 use Rattle.chain_settling.proofs.Opened.{legal_record}
 use Rattle.chain_settling.proofs.Outcomes.{text_on}
-use Rattle.chain_settling.proofs.Plans.{parent_by, up_alike}
+use Rattle.chain_settling.proofs.Plans.{Rewritten, parent_by, record_was, up_alike}
 use Rattle.chain_settling.proofs.OpensAlike.{none_of_sound}
 
 -- the image's records pass their checks
@@ -65,20 +65,6 @@ passed i x v vs o =
   where
     path : List Id
     path = path_of (records_of i x) v vs
-
--- a record that is rewritten or not is there where it was, with the same format and capacity
-record Rewritten (o a : Option VolumeRecord) (z : VolumeRecord) : Type 0 where
-  was : VolumeRecord
-  is : o ≡ Some was
-  format : z.format ≡ was.format
-  capacity : z.capacity ≡ was.capacity
-
-record_was : (r : Records) (v : Id) (o a : Option VolumeRecord) (z : VolumeRecord) → (a ≡ o) ⊎ IsRewritten r v o a → a ≡ Some z → Rewritten o a z
-record_was r v o a z (inl same) e = record { was = z; is = sym same ∙ e; format = refl; capacity = refl }
-record_was r v None a z (inr is) e = absurd (none-some z (sym is ∙ e))
-record_was r v (Some y) a z (inr is) e =
-    let same = same_Some z (record y { parent = is.0; voltype = is.1 }) (sym e ∙ is.2) in
-    record { was = y; is = refl; format = ap (λ (q : VolumeRecord). q.format) same; capacity = ap (λ (q : VolumeRecord). q.capacity) same }
 
 some_after : (r : Records) (v : Id) (o a : Option VolumeRecord) (y : VolumeRecord) → (a ≡ o) ⊎ IsRewritten r v o a → o ≡ Some y → (z : VolumeRecord) × (a ≡ Some z)
 some_after r v o a y (inl same) e = (y, same ∙ e)

@@ -17,7 +17,6 @@ use Rattle.shared_disk.specs.NameCalls.{place_in}
 use Rattle.qcow_layer.specs.Opening.{place_kept, volume_kept}
 use Rattle.qcow_layer.specs.declared.layer.Layer.{Layer}
 use Rattle.settling_steps.specs.Leftovers.{temporary_in}
-use Rattle.settling_steps.specs.Lengthening.{IsWhole}
 use Rattle.settling_steps.specs.Names.{name_of}
 use Rattle.settling_steps.specs.declared.names.Temporary.{Temporary}
 use Rattle.settling_steps.specs.declared.names.Temporary.TheVariants.{New, Volatile}
@@ -36,7 +35,7 @@ use Rattle.chain_settling.specs.Alike.{AreSaidBut, HasTypeOf, IsSaid, KnowsImage
 use Rattle.chain_settling.specs.Reopening.{OpensAlike}
 use Rattle.chain_settling.specs.Was.{file_in, folder_in, image_kept, text_in}
 use Rattle.chain_settling.specs.Fit.{StageTurn}
-use Rattle.chain_settling.specs.Knowing.{KnowsRest, KnowsSettled, KnowsTexts, KnowsWriting}
+use Rattle.chain_settling.specs.Knowing.{KnowsTexts, KnowsWriting}
 use Rattle.chain_settling.specs.Steps.{IsLayerStep, IsOther, KnowsStage, Settles}
 use Rattle.chain_settling.specs.Work.{IsLayerAt, IsRight, record_at}
 use Rattle.chain_settling.specs.declared.stages.Part.{Part}
@@ -109,9 +108,9 @@ module _ (c : Chain) (p : Part) (i : ℕ) (w : TextWrite) (host faults : ℕ) (r
   pub kept_others : (q : Place) → IsOther c q → e.file q ≡ d.file q
   kept_others q other = elsewhere q (other.text k.volume) (other.temporary (New k.volume))
 
-  pub each_step : (b : ℕ) (l : Layer) → IsLayerAt c b l → IsAlso (IsLayerStep l) (d.file (place_kept l)) (e.file (place_kept l))
+  pub each_step : (b : ℕ) (l : Layer) → IsLayerAt c b l → IsAlso (IsLayerStep r l) (d.file (place_kept l)) (e.file (place_kept l))
   each_step b l is =
-      no_step l (d.file (place_kept l)) (e.file (place_kept l))
+      no_step r l (d.file (place_kept l)) (e.file (place_kept l))
       (subst (λ (q : Place). e.file q ≡ d.file q) (sym (k.rest.layers.each b l is).place) (files_same (volume_kept l)))
 
   has_here : HasRecord (write_version w) (file_of w) k.says e → HasRecord (image_kept c).version (text_in dir k.volume) k.says e

@@ -35,7 +35,7 @@ use Rattle.volume_chain.specs.declared.chain.Chain.{Chain}
 use Rattle.chain_settling.specs.Alike.{AreSaid, AreSaidBut, IsCow, KnowsImage}
 use Rattle.chain_settling.specs.Reopening.{named_in}
 use Rattle.chain_settling.specs.Was.{file_in, folder_in}
-use Rattle.chain_settling.specs.Work.{IsLayerAt, IsRight, IsRightType}
+use Rattle.chain_settling.specs.Work.{IsBackingFor, IsLayerAt, IsRight, IsRightType}
 use Rattle.chain_settling.specs.declared.stages.Part.{Part}
 use Rattle.chain_settling.specs.declared.stages.Part.TheVariants.{Parents, Types}
 
@@ -199,7 +199,7 @@ pub record KnowsHeading (c : Chain) (at : ℕ) (h : Rebasing) (host : ℕ) (r : 
   pub knows : heading.KnowsFile h layer host file
   pub heads : OnEach file (IsHeadOf layer (heading.backing_of h))
   pub cow : IsCow layer (r (volume_kept layer))
-  pub over : IsOver r (volume_kept layer) (heading.backing_of h).parent
+  pub backs : IsBackingFor r layer (Some (heading.backing_of h))
   pub named : IsAsNamed c r x layer
   pub told : AreToldTo c r at
   pub others : (b : ℕ) (l : Layer) → b ≢ at → IsLayerAt c b l → KnowsSettled c l host d

@@ -1,5 +1,5 @@
 -- What a step of a settling leaves of an image that is known.
-use Rattle.std.specs.Prelude.{◌≡◌, ◌≢◌, ◌⊎◌, ℕ}
+use Rattle.std.specs.Prelude.{◌≡◌, ◌≢◌, ◌⊎◌, ℕ, Some}
 use Rattle.sd_names.specs.Turn.{MatchTurn}
 use Rattle.sd_names.specs.declared.id.Id.{Id}
 use Rattle.sd_names.specs.declared.place.Dir.{Dir}
@@ -32,7 +32,7 @@ use Rattle.chain_settling.specs.Was.{folder_in, image_kept, text_in}
 use Rattle.chain_settling.specs.Fit.{StageTurn, chain_in}
 use Rattle.chain_settling.specs.Left.{MeetsAt}
 use Rattle.chain_settling.specs.Knowing.{IsSettledImage, KnowsHeaders, KnowsHeading, KnowsLengthening, KnowsLengths, KnowsTexts, KnowsTidying, KnowsWriting}
-use Rattle.chain_settling.specs.Work.{IsLayerAt, IsRight}
+use Rattle.chain_settling.specs.Work.{IsBackingFor, IsLayerAt, IsRight}
 use Rattle.chain_settling.specs.declared.stages.Stage.{Stage}
 use Rattle.chain_settling.specs.declared.stages.Stage.TheVariants.{Tidying, Lengths, Headers, Heading, Texts, Writing}
 use Rattle.chain_settling.specs.declared.stages.Stage.TheVariants as stages
@@ -53,10 +53,11 @@ pub record IsOther (c : Chain) (q : Place) : Type 0 where
   pub temporary : (o : Temporary) → q ≢ temporary_in (folder_in c) o
   pub layer : (b : ℕ) (l : Layer) → IsLayerAt c b l → q ≢ place_kept l
 
--- What a step makes of the file of a layer of the path: nothing, or zeros behind its end; or, in a file that stays as long, each
--- outcome is one from before, or one from before in which the layer lies over another backing file.
-abbrev pub IsLayerStep : Layer → File → File → Type 0
-IsLayerStep l f g = IsGrownFile f g ⊎ ((g.size ≡ f.size) × (b : Backing) × ComesBy (IsOldOrOver (header_kept l) b (capacity_kept l)) f g)
+-- What a step makes of the file of a layer of the path: nothing, or zeros behind its end; or, where the header names another
+-- volume than the parent that counts, in a file that stays as long, each outcome is one from before, or one from before in which
+-- the layer lies over that parent, with its format.
+abbrev pub IsLayerStep : Records → Layer → File → File → Type 0
+IsLayerStep r l f g = IsGrownFile f g ⊎ ((g.size ≡ f.size) × (b : Backing) × IsBackingFor r l (Some b) × ComesBy (IsOldOrOver (header_kept l) b (capacity_kept l)) f g)
 
 -- The name that a step lists is in the folder. No folder is changed, and no file but texts, temporary texts and the files of the path's layers, all in the image's folder;
 -- a text that has to change in nothing stays; and the image reads alike on each outcome, and opens alike. A refusal is the disk's fault.
@@ -66,7 +67,7 @@ pub record Settles (s : Stage) (host faults : ℕ) (r : Records) (x : Volumes) (
   pub others : (q : Place) → q.dir ≢ folder_in (chain_in s) → e.file q ≡ d.file q
   pub kept : (q : Place) → IsOther (chain_in s) q → e.file q ≡ d.file q
   pub right : (v : Id) → IsRight r v → e.file (text_in (folder_in (chain_in s)) v) ≡ d.file (text_in (folder_in (chain_in s)) v)
-  pub layers : (b : ℕ) (l : Layer) → IsLayerAt (chain_in s) b l → IsAlso (IsLayerStep l) (d.file (place_kept l)) (e.file (place_kept l))
+  pub layers : (b : ℕ) (l : Layer) → IsLayerAt (chain_in s) b l → IsAlso (IsLayerStep r l) (d.file (place_kept l)) (e.file (place_kept l))
   pub alike : ReadsAlike (image_kept (chain_in s)) (folder_in (chain_in s)) r x e
   pub opens : OpensAlike (image_kept (chain_in s)) (folder_in (chain_in s)) r x e
   pub after : MatchTurn turn
