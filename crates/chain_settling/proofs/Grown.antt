@@ -1,4 +1,5 @@
--- What a settling knows survives growth of a volume's file that is no layer of the path.
+-- What a settling knows survives growth of a volume's file: of one that is no layer of the path, and of a layer whose turn to be
+-- grown hasn't come.
 use Rattle.std.proofs.Common.{◌≡◌, ◌≢◌, ◌⊎◌, ℕ, Option, Some, None, refl, sym, ◌∙◌, subst, inl, inr, arith}
 use Rattle.sd_names.specs.declared.id.Id.{Id}
 use Rattle.sd_names.specs.declared.place.Dir.{Dir}
@@ -37,7 +38,7 @@ use Rattle.chain_settling.proofs.Survives.{Leaves, also_itself, stays, write_sam
 longer_on : (f g h : File) → IsLonger f g → IsLonger g h → IsLonger f h
 longer_on f g h a b = record { size = omega (arith, a.size, b.size); sectors = λ k. b.sectors k ∙ a.sectors k }
 
-module _ (c : Chain) (r : Records) (x : Volumes) (size : ℕ) (v : Id) (d e : Content) (formed : IsWellFormed d) (grows : IsGrown d (file_in (folder_in c) v) size e) (off : IsOffLayers c v) where
+module _ (c : Chain) (r : Records) (x : Volumes) (size : ℕ) (v : Id) (d e : Content) (formed : IsWellFormed d) (grows : IsGrown d (file_in (folder_in c) v) size e) where
   abbrev dir : Dir
   dir = folder_in c
 
@@ -50,7 +51,7 @@ module _ (c : Chain) (r : Records) (x : Volumes) (size : ℕ) (v : Id) (d e : Co
   pub texts_same : (u : Id) → e.file (text_in dir u) ≡ d.file (text_in dir u)
   texts_same u = elsewhere (text_in dir u) (file_not_text dir u v)
 
-  file_same : (u : Id) → u ≢ v → e.file (file_in dir u) ≡ d.file (file_in dir u)
+  pub file_same : (u : Id) → u ≢ v → e.file (file_in dir u) ≡ d.file (file_in dir u)
   file_same u other = elsewhere (file_in dir u) (files_apart dir u v other)
 
   pub temporary_same : (o : Temporary) → e.file (temporary_in dir o) ≡ d.file (temporary_in dir o)
@@ -59,17 +60,30 @@ module _ (c : Chain) (r : Records) (x : Volumes) (size : ℕ) (v : Id) (d e : Co
   pub layers_same : (l : Layer) → volume_kept l ≢ v → place_kept l ≡ file_in dir (volume_kept l) → e.file (place_kept l) ≡ d.file (place_kept l)
   layers_same l other place = subst (λ (p : Place). e.file p ≡ d.file p) (sym place) (file_same (volume_kept l) other)
 
-  module _ (k : KnowsImage c r x d) where
-    alone_here : IsAlso IsLeftAlone (x.file v) (Some f)
-    alone_here = subst (λ (o : Option File). IsAlso IsLeftAlone (x.file v) o) grows.1 (k.alone v off)
-
-    settled : IsSettled f
-    settled = go (x.file v) alone_here
+  -- a file of which no layer is on the path is settled, and left alone as it was
+  module _ (k : KnowsImage c r x d) (off : IsOffLayers c v) where
+    pub settled_off : IsSettled f
+    settled_off = go (x.file v) (subst (λ (o : Option File). IsAlso IsLeftAlone (x.file v) o) grows.1 (k.alone v off))
       where
         go : (o : Option File) → IsAlso IsLeftAlone o (Some f) → IsSettled f
         go None also = absurd also
         go (Some t) also = also.settled
 
+    pub alone_off : AreLeftAlone c x e
+    alone_off u free = go (same_or_not u v)
+      where
+        here : (t : Option File) → IsAlso IsLeftAlone t (Some f) → IsAlso IsLeftAlone t (Some (grown size f))
+        here None also = absurd also
+        here (Some t) was = record { settled = grown_settled size f was.settled; longer = longer_on t f (grown size f) was.longer (grown_is_longer size f) }
+
+        go : (u ≡ v) ⊎ (u ≢ v) → IsAlso IsLeftAlone (x.file u) (e.file (file_in dir u))
+        go (inl same) =
+            subst (λ (w : Id). IsAlso IsLeftAlone (x.file w) (e.file (file_in dir w))) (sym same)
+            (subst (λ (o : Option File). IsAlso IsLeftAlone (x.file v) o) (sym grows.2.here)
+            (here (x.file v) (subst (λ (o : Option File). IsAlso IsLeftAlone (x.file v) o) grows.1 (k.alone v off))))
+        go (inr other) = subst (λ (o : Option File). IsAlso IsLeftAlone (x.file u) o) (sym (file_same u other)) (k.alone u free)
+
+  module _ (k : KnowsImage c r x d) (settled : IsSettled f) (alone : AreLeftAlone c x e) where
     earlier : (g : File) → IsFileOutcome (grown size f) g → (h : File) × IsFileOutcome f h × IsLonger h g
     earlier g out = outcome_before f (grown size f) g (inr (size, settled.fresh, formed.files (file_in dir v) f grows.1, refl)) out
 
@@ -101,15 +115,6 @@ module _ (c : Chain) (r : Records) (x : Volumes) (size : ℕ) (v : Id) (d e : Co
         (λ t is each g out. let before = earlier g out in sound_longer (r v) t before.0 g before.2 (each before.0 before.1))
         (λ t is each g out. let before = earlier g out in names_longer r v (text_names (image_kept c) dir d v) t before.0 g before.2 (each before.0 before.1)) k.opens
 
-    alone : AreLeftAlone c x e
-    alone u free = go (same_or_not u v)
-      where
-        go : (u ≡ v) ⊎ (u ≢ v) → IsAlso IsLeftAlone (x.file u) (e.file (file_in dir u))
-        go (inl same) =
-            subst (λ (w : Id). IsAlso IsLeftAlone (x.file w) (e.file (file_in dir w))) (sym same)
-            (grown_here IsLeftAlone IsLeftAlone (λ t was. record { settled = grown_settled size f was.settled; longer = longer_on t f (grown size f) was.longer (grown_is_longer size f) }) (k.alone v off))
-        go (inr other) = subst (λ (o : Option File). IsAlso IsLeftAlone (x.file u) o) (sym (file_same u other)) (k.alone u free)
-
     pub image_grown : KnowsImage c r x e
     image_grown = record {
       folder = grows.2.dirs dir ∙ k.folder;
@@ -129,14 +134,14 @@ pub grown_knows : (s : Stage) (host : ℕ) (r : Records) (x : Volumes) (size : �
     → IsOffLayers (chain_in s) v → KnowsStage s host r x d → KnowsStage s host r x e
 grown_knows s host r x size v d e formed after grows off k =
     stays s host r x d e on
-    (write_same s host r x d e (grows.2.dirs (folder_in (chain_in s))) (λ u. temporary_same (chain_in s) r x size v d e formed grows off (New u))) k
+    (write_same s host r x d e (grows.2.dirs (folder_in (chain_in s))) (λ u. temporary_same (chain_in s) r x size v d e formed grows (New u))) k
   where
     on : Leaves (chain_in s) r x d e
     on = record {
       formed = λ _. after;
       there = grows.2.dirs (folder_in (chain_in s));
-      image = λ image. image_grown (chain_in s) r x size v d e formed grows off image;
-      texts = texts_same (chain_in s) r x size v d e formed grows off;
-      layers = λ b l is place. layers_same (chain_in s) r x size v d e formed grows off l (off b l is) place;
-      names = λ o. also_itself (d.file (temporary_in (folder_in (chain_in s)) o)) (e.file (temporary_in (folder_in (chain_in s)) o)) (temporary_same (chain_in s) r x size v d e formed grows off o);
+      image = λ image. image_grown (chain_in s) r x size v d e formed grows image (settled_off (chain_in s) r x size v d e formed grows image off) (alone_off (chain_in s) r x size v d e formed grows image off);
+      texts = texts_same (chain_in s) r x size v d e formed grows;
+      layers = λ b l is place. layers_same (chain_in s) r x size v d e formed grows l (off b l is) place;
+      names = λ o. also_itself (d.file (temporary_in (folder_in (chain_in s)) o)) (e.file (temporary_in (folder_in (chain_in s)) o)) (temporary_same (chain_in s) r x size v d e formed grows o);
     }

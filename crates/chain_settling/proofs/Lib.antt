@@ -21,4 +21,5 @@ pub mod Known
 pub mod Reopened
 pub mod Survives
 pub mod Grown
+pub mod Early
 pub mod Costs

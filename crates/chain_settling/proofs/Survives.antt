@@ -94,16 +94,16 @@ left_before : (dir : Dir) (d e : Content) → SameNames dir d e → (o : Tempora
 left_before dir d e names o left =
     was_some (d.file (temporary_in dir o)) left.0 (subst (λ (b : Option File). IsAlso (λ f g. Unit {0}) (d.file (temporary_in dir o)) b) left.1 (names o))
 
-tidy_on : (dir : Dir) (d e : Content) → SameNames dir d e → IsTidy dir d → IsTidy dir e
+pub tidy_on : (dir : Dir) (d e : Content) → SameNames dir d e → IsTidy dir d → IsTidy dir e
 tidy_on dir d e names tidy o = still_none (d.file (temporary_in dir o)) (e.file (temporary_in dir o)) (names o) (tidy o)
 
-stage_on : (s : TidyingStage) (dir : Dir) (d e : Content) → (e.dir dir ≡ d.dir dir) × SameNames dir d e → tidying.KnowsStage s dir d → tidying.KnowsStage s dir e
+pub stage_on : (s : TidyingStage) (dir : Dir) (d e : Content) → (e.dir dir ≡ d.dir dir) × SameNames dir d e → tidying.KnowsStage s dir d → tidying.KnowsStage s dir e
 stage_on (Listing after) dir d e on k =
     (record { there = on.0 ∙ k.0.there; ids = λ o left. k.0.ids o (left_before dir d e on.1 o left) }, λ o left. k.1 o (left_before dir d e on.1 o left))
 stage_on (Removing p) dir d e on k =
     (record { there = on.0 ∙ k.0.there; ids = λ o left. k.0.ids o (left_before dir d e on.1 o left) }, λ o left. k.1 o (left_before dir d e on.1 o left))
 
-long_on : (l : Lengthening) (m : Layer) (host : ℕ) (d e : Content) → e.file (place_kept m) ≡ d.file (place_kept m) → lengthening.Knows l m host d → lengthening.Knows l m host e
+pub long_on : (l : Lengthening) (m : Layer) (host : ℕ) (d e : Content) → e.file (place_kept m) ≡ d.file (place_kept m) → lengthening.Knows l m host d → lengthening.Knows l m host e
 long_on Asking m host d e same k = long_kept host m d e same k
 long_on (Growing bytes) m host d e same k = record { long = record { file = k.long.file; there = same ∙ k.long.there; knows = k.long.knows; room = k.long.room }; whole = k.whole; above = k.above; fits = k.fits }
 

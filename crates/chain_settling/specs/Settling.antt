@@ -12,7 +12,7 @@ use Rattle.settling_steps.specs.Leftovers as tidy
 use Rattle.settling_steps.specs.declared.leftovers.Tidying.{Tidying}
 use Rattle.chain_settling.specs.Fit.{IsFit, KeepsFit, StageTurn, chain_in}
 use Rattle.chain_settling.specs.Left.{FallsIn, MeetsAt, left_of}
-use Rattle.chain_settling.specs.Steps.{KnowsStage, SettlesIn}
+use Rattle.chain_settling.specs.Steps.{IsBeforeGrowth, KnowsStage, SettlesIn}
 use Rattle.chain_settling.specs.Was.{folder_in}
 use Rattle.chain_settling.specs.declared.settling.Settling.{Settling}
 use Rattle.chain_settling.specs.declared.stages.Stage.{Stage}
@@ -66,6 +66,10 @@ pub record BeginsTidying (c : Chain) (s : Settling) : Type 0 where
 -- what is known in its stage, and what a step leaves of an image that is known
 abbrev pub Knows : Settling → ℕ → Records → Volumes → Content → Type 0
 Knows s host r x d = KnowsStage s.stage host r x d
+
+-- the file of the layer at a place of the path hasn't got its turn to be grown
+abbrev pub IsEarly : Settling → ℕ → Type 0
+IsEarly s b = IsBeforeGrowth s.stage b
 
 abbrev pub SettlesOn : Settling → ℕ → ℕ → SettlingTurn → Content → Content → Type 0
 SettlesOn s host faults turn d e = SettlesIn s.stage host faults (stage_turn turn) d e

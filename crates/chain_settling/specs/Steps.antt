@@ -1,5 +1,5 @@
 -- What a step of a settling leaves of an image that is known.
-use Rattle.std.specs.Prelude.{◌≡◌, ◌≢◌, ◌⊎◌, ℕ, Some}
+use Rattle.std.specs.Prelude.{◌≡◌, ◌≢◌, ◌⊎◌, ℕ, ◌<◌, ◌≤◌, Some}
 use Rattle.sd_names.specs.Turn.{MatchTurn}
 use Rattle.sd_names.specs.declared.id.Id.{Id}
 use Rattle.sd_names.specs.declared.place.Dir.{Dir}
@@ -46,6 +46,13 @@ KnowsStage (Lengths c at) host r x d = KnowsLengths c at host r x d
 KnowsStage (stages.Lengthening c at l) host r x d = KnowsLengthening c at l host r x d
 KnowsStage (Headers c at) host r x d = KnowsHeaders c at host r x d
 KnowsStage (Heading c at h) host r x d = KnowsHeading c at h host r x d
+
+-- the file of the layer at a place of the path hasn't got its turn to be grown
+abbrev pub IsBeforeGrowth : Stage → ℕ → Type 0
+IsBeforeGrowth (Tidying c t) b = Unit {0}
+IsBeforeGrowth (Lengths c at) b = at ≤ b
+IsBeforeGrowth (stages.Lengthening c at l) b = at < b
+IsBeforeGrowth s b = ⊥
 
 -- a place that is neither that of a text or a temporary text of the image, nor that of the file of a layer of the path
 pub record IsOther (c : Chain) (q : Place) : Type 0 where

@@ -1,5 +1,5 @@
 // Laws of images that are settled: contracts of functions that do nothing.
-ghost use Rattle.std.specs.Prelude.{◌≡◌, ◌≢◌, ◌+◌, ◌*◌, ℕ, List, length, Contains, Option, None};
+ghost use Rattle.std.specs.Prelude.{◌≡◌, ◌≢◌, ◌+◌, ◌*◌, ◌^◌, ◌≤◌, ℕ, List, length, Contains, Option, None};
 ghost use Rattle.sd_names.specs.declared.id.Id.{Id};
 ghost use Rattle.sd_names.specs.declared.place.Dir.{Dir};
 ghost use Rattle.sd_names.specs.declared.place.Name.{Name};
@@ -18,6 +18,9 @@ ghost use Rattle.chain_model.specs.Records.{Image, Records, records_of};
 ghost use Rattle.chain_records.specs.Paths.{HasChain};
 ghost use Rattle.chain_records.specs.Settling.{ArePartlyRewritten};
 ghost use Rattle.shared_disk.specs.WellFormed.{IsWellFormed};
+ghost use Rattle.qcow_layer.specs.Opening.{place_kept};
+ghost use Rattle.qcow_layer.specs.declared.layer.Layer.{Layer};
+ghost use Rattle.settling_steps.specs.Lengthening.{width_of};
 ghost use Rattle.settling_steps.specs.Leftovers.{IsPaid, IsRise, KnowsNames};
 ghost use Rattle.volume_chain.specs.Chain.{open_in, records_kept};
 ghost use Rattle.volume_chain.specs.Knowing.{KnowsChain};
@@ -25,12 +28,12 @@ ghost use Rattle.volume_chain.specs.Stages.{IsOpen};
 ghost use Rattle.volume_chain.specs.declared.chain.Chain.{Chain};
 ghost use Rattle.chain_settling.specs.Alike.{HasTypeOf, ReadsAlike};
 ghost use Rattle.chain_settling.specs.Was.{IsOffLayers, file_in, folder_in, image_kept};
-ghost use Rattle.chain_settling.specs.Work.{IsRight};
+ghost use Rattle.chain_settling.specs.Work.{IsLayerAt, IsRight};
 ghost use Rattle.chain_settling.specs.declared.settling.Settling.{Settling};
 ghost use Rattle.chain_settling.specs.Fit.{AreValid};
 ghost use Rattle.chain_settling.specs.Knowing.{HaveRoom, IsSettledImage};
 ghost use Rattle.chain_settling.specs.Left.{IsCost};
-ghost use Rattle.chain_settling.specs.Settling.{BeginsTidying, Knows, Meets, SettlingTurn, chain_of, folder_of, steps_left};
+ghost use Rattle.chain_settling.specs.Settling.{BeginsTidying, Knows, Meets, SettlingTurn, IsEarly, chain_of, folder_of, steps_left};
 
 /// A law: where an image reads alike, it does so on each outcome: each text says its old record or a rewritten one, the
 /// reading volume is the same, and each LEGAL volume reads as it did.
@@ -53,13 +56,16 @@ pub fn open_chains_are_known()
 {}
 
 /// A law: what a settling knows stays known whatever else changes on the disk while the image's folder is there and each of
-/// its files stays, where another host goes down, and where a volume's file gets longer that is no layer of the path.
+/// its files stays, where another host goes down, and where a volume's file gets longer that is no layer of the path,
+/// or a layer's before its turn to be grown has come.
 pub fn known_settlings_stay_known()
     ensures untouched { (s : Settling) (host : ℕ) (r : Records) (x : Volumes) (d e : Content) → IsWellFormed e → e.dir (folder_of s) ≡ d.dir (folder_of s)
         → ((q : Place) → q.dir ≡ folder_of s → e.file q ≡ d.file q) → Knows s host r x d → Knows s host r x e }
     ensures down { (s : Settling) (host other : ℕ) (r : Records) (x : Volumes) (d e : Content) → host ≢ other → DownLeaves d other e → Knows s host r x d → Knows s host r x e }
     ensures grown { (s : Settling) (host size : ℕ) (r : Records) (x : Volumes) (v : Id) (d e : Content) → IsWellFormed d → IsWellFormed e → IsGrown d (file_in (folder_of s) v) size e → IsOffLayers (chain_of s) v
         → Knows s host r x d → Knows s host r x e }
+    ensures early { (s : Settling) (host size b : ℕ) (r : Records) (x : Volumes) (l : Layer) (d e : Content) → IsWellFormed d → IsWellFormed e → IsGrown d (place_kept l) size e → IsLayerAt (chain_of s) b l
+        → 512 * size + width_of l ≤ 2 ^ 64 → IsEarly s b → Knows s host r x d → Knows s host r x e }
 {}
 
 /// A law: how many steps a settling takes. `falls` of its steps makes one number fall, where the names that are listed are paid
