@@ -13,7 +13,7 @@ use Rattle.shared_disk.specs.Content.{Content}
 use Rattle.shared_disk.specs.NameCalls.{IsNameAbove}
 use Rattle.shared_disk.proofs.Outcomes.{nothing_in, cons_cases}
 use Rattle.chain_gathering.specs.Gathering.{Meets, folder}
-use Rattle.chain_gathering.specs.Names.{IsCost, cost_of, is_above, price}
+use Rattle.chain_gathering.specs.Names.{IsCost, cost_by, is_above}
 use Rattle.chain_gathering.specs.Stages.{GatheringTurn}
 use Rattle.chain_gathering.specs.Steps.{IsPaid, IsRise, IsShown, MeetsAt}
 use Rattle.chain_gathering.specs.declared.gathering.Gathering.{Gathering}
@@ -35,45 +35,46 @@ above_on : (before : Option Name) (n m : Name) → IsNameAbove before n → is_a
 above_on None n m above e = refl
 above_on (Some b) n m above e = ap is_lt (name_cmp-total.trans b n m above (is_less (name_cmp n m) e))
 
--- the cost of one name of the list
-abbrev own_cost : Option Name → Name → ℕ
-own_cost before n = if is_above before n then price n else 0
+module _ (priced : Name → ℕ) where
+  -- the cost of one name of the list
+  abbrev own_cost : Option Name → Name → ℕ
+  own_cost before n = if is_above before n then priced n else 0
 
-own_less : (before : Option Name) (n m : Name) → IsNameAbove before n → own_cost (Some n) m ≤ own_cost before m
-own_less before n m above = go (is_above (Some n) m) refl
-  where
-    go : (t : Bool) → is_above (Some n) m ≡ t → (if t then price m else 0) ≤ own_cost before m
-    go true t = let on = above_on before n m above t in rw on (omega arith)
-    go false t = omega arith
+  own_less : (before : Option Name) (n m : Name) → IsNameAbove before n → own_cost (Some n) m ≤ own_cost before m
+  own_less before n m above = go (is_above (Some n) m) refl
+    where
+      go : (t : Bool) → is_above (Some n) m ≡ t → (if t then priced m else 0) ≤ own_cost before m
+      go true t = let on = above_on before n m above t in rw on (omega arith)
+      go false t = omega arith
 
-cost_less : (ns : List Name) (before : Option Name) (n : Name) → IsNameAbove before n → cost_of ns (Some n) ≤ cost_of ns before
-cost_less [] before n above = omega arith
-cost_less (m ∷ ns) before n above = omega (arith, own_less before n m above, cost_less ns before n above)
+  cost_less : (ns : List Name) (before : Option Name) (n : Name) → IsNameAbove before n → cost_by priced ns (Some n) ≤ cost_by priced ns before
+  cost_less [] before n above = omega arith
+  cost_less (m ∷ ns) before n above = omega (arith, own_less before n m above, cost_less ns before n above)
 
-own_none : (n : Name) → own_cost (Some n) n ≡ 0
-own_none n = go (is_above (Some n) n) refl
-  where
-    go : (t : Bool) → is_above (Some n) n ≡ t → (if t then price n else 0) ≡ 0
-    go true t = absurd (passed_itself n (is_less (name_cmp n n) t))
-    go false t = refl
+  own_none : (n : Name) → own_cost (Some n) n ≡ 0
+  own_none n = go (is_above (Some n) n) refl
+    where
+      go : (t : Bool) → is_above (Some n) n ≡ t → (if t then priced n else 0) ≡ 0
+      go true t = absurd (passed_itself n (is_less (name_cmp n n) t))
+      go false t = refl
 
-own_whole : (before : Option Name) (n : Name) → IsNameAbove before n → own_cost before n ≡ price n
-own_whole before n above = let is = above_is before n above in rw is refl
+  own_whole : (before : Option Name) (n : Name) → IsNameAbove before n → own_cost before n ≡ priced n
+  own_whole before n above = let is = above_is before n above in rw is refl
 
-pub cost_of_shown : (ns : List Name) (before : Option Name) (n : Name) → Contains ns n → IsNameAbove before n → cost_of ns (Some n) + price n ≤ cost_of ns before
-cost_of_shown [] before n h above = absurd (nothing_in n h)
-cost_of_shown (m ∷ ns) before n h above = go (cons_cases m n ns h) (λ c. cost_of_shown ns before n c above)
-  where
-    here : own_cost (Some n) n + cost_of ns (Some n) + price n ≤ own_cost before n + cost_of ns before
-    here = omega (arith, own_none n, own_whole before n above, cost_less ns before n above)
+  pub cost_by_shown : (ns : List Name) (before : Option Name) (n : Name) → Contains ns n → IsNameAbove before n → cost_by priced ns (Some n) + priced n ≤ cost_by priced ns before
+  cost_by_shown [] before n h above = absurd (nothing_in n h)
+  cost_by_shown (m ∷ ns) before n h above = go (cons_cases m n ns h) (λ c. cost_by_shown ns before n c above)
+    where
+      here : own_cost (Some n) n + cost_by priced ns (Some n) + priced n ≤ own_cost before n + cost_by priced ns before
+      here = omega (arith, own_none n, own_whole before n above, cost_less ns before n above)
 
-    go : (m ≡ n) ⊎ Contains ns n → (Contains ns n → cost_of ns (Some n) + price n ≤ cost_of ns before) → own_cost (Some n) m + cost_of ns (Some n) + price n ≤ own_cost before m + cost_of ns before
-    go (inl e) more = subst (λ (k : Name). own_cost (Some n) k + cost_of ns (Some n) + price n ≤ own_cost before k + cost_of ns before) (sym e) here
-    go (inr c) more = omega (arith, own_less before n m above, more c)
+      go : (m ≡ n) ⊎ Contains ns n → (Contains ns n → cost_by priced ns (Some n) + priced n ≤ cost_by priced ns before) → own_cost (Some n) m + cost_by priced ns (Some n) + priced n ≤ own_cost before m + cost_by priced ns before
+      go (inl e) more = subst (λ (k : Name). own_cost (Some n) k + cost_by priced ns (Some n) + priced n ≤ own_cost before k + cost_by priced ns before) (sym e) here
+      go (inr c) more = omega (arith, own_less before n m above, more c)
 
-pub cost_of_all : (ns : List Name) → cost_of ns None ≡ sum_by price ns
-cost_of_all [] = refl
-cost_of_all (n ∷ ns) = omega (arith, cost_of_all ns, sum_by-cons price n ns)
+  pub cost_by_all : (ns : List Name) → cost_by priced ns None ≡ sum_by priced ns
+  cost_by_all [] = refl
+  cost_by_all (n ∷ ns) = omega (arith, cost_by_all ns, sum_by-cons priced n ns)
 
 -- ---- the name that a step lists is paid for
 

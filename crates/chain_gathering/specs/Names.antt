@@ -41,6 +41,9 @@ is_above None n = true
 is_above (Some b) n = is_lt (name_cmp b n)
 
 -- the prices of those of some names that are above one
+abbrev pub cost_by : (Name → ℕ) → List Name → Option Name → ℕ
+cost_by priced [] before = 0
+cost_by priced (n ∷ ns) before = (if is_above before n then priced n else 0) + cost_by priced ns before
+
 abbrev pub cost_of : List Name → Option Name → ℕ
-cost_of [] before = 0
-cost_of (n ∷ ns) before = (if is_above before n then price n else 0) + cost_of ns before
+cost_of names before = cost_by price names before

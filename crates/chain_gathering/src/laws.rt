@@ -19,7 +19,7 @@ ghost use Rattle.chain_records.specs.Shown.{AreRead};
 ghost use Rattle.chain_gathering.specs.Gathering.{HasGathered, Knows, Meets, folder, image};
 ghost use Rattle.chain_gathering.specs.Kept.{first_missing, found_in, ids_found, records_kept};
 ghost use Rattle.chain_gathering.specs.Knowing.{volumes_in};
-ghost use Rattle.chain_gathering.specs.Names.{IsCost, cost_of, price};
+ghost use Rattle.chain_gathering.specs.Names.{IsCost, cost_by, cost_of};
 ghost use Rattle.chain_gathering.specs.Stages.{GatheringTurn};
 ghost use Rattle.chain_gathering.specs.Steps.{IsPaid, IsRise, IsShown};
 ghost use Rattle.chain_gathering.specs.declared.gathered.Gathered.{Gathered as AnyGathered};
@@ -33,11 +33,11 @@ pub fn knowledge_survives()
 {}
 
 /// A law: `falls` of a step applies where the names that the folder shows have such a cost. Where these are among some
-/// names, what those cost is one; and all of them cost what their prices come to.
+/// names, what those cost is one; and all of them cost what their prices come to, whatever the price of a name is.
 pub fn shown_names_bound_the_steps()
     ensures paid { (g : AnyGathering) (turn : GatheringTurn) (cost : Option Name → ℕ) (d : Content) → IsCost (folder g) d cost → Meets IsRise g turn → Meets (IsShown (folder g) d) g turn → Meets (IsPaid cost) g turn }
     ensures counted { (dir : Dir) (d : Content) (names : List Name) → ((n : Name) → ShowsName d dir n → Contains names n) → IsCost dir d (cost_of names) }
-    ensures all { (names : List Name) → cost_of names None ≡ sum_by price names }
+    ensures all { (priced : Name → ℕ) (names : List Name) → cost_by priced names None ≡ sum_by priced names }
 {}
 
 /// A law: a folder shows no more texts of volumes than it shows names. So there are few enough to count them, where there

@@ -1,5 +1,5 @@
 // Laws of images that are settled: contracts of functions that do nothing.
-ghost use Rattle.std.specs.Prelude.{◌≡◌, ◌≢◌, ◌+◌, ◌*◌, ◌^◌, ◌≤◌, ℕ, List, length, Contains, Option, None};
+ghost use Rattle.std.specs.Prelude.{◌≡◌, ◌≢◌, ◌+◌, ◌*◌, ◌^◌, ◌≤◌, ℕ, List, length, sum_by, Contains, Option, None};
 ghost use Rattle.sd_names.specs.declared.id.Id.{Id};
 ghost use Rattle.sd_names.specs.declared.place.Dir.{Dir};
 ghost use Rattle.sd_names.specs.declared.place.Name.{Name};
@@ -9,7 +9,7 @@ ghost use Rattle.shared_disk.specs.Crash.{DownLeaves, IsOutcome};
 ghost use Rattle.shared_disk.specs.NameCalls.{ShowsName};
 ghost use Rattle.shared_disk.specs.SectorCalls.{IsGrown};
 ghost use Rattle.chain_gathering.specs.Knowing.{AreSettled, volumes_in};
-ghost use Rattle.chain_gathering.specs.Names.{cost_of};
+ghost use Rattle.chain_gathering.specs.Names.{cost_by, cost_of};
 ghost use Rattle.chain_gathering.specs.Steps.{IsShown};
 ghost use Rattle.chain_model.specs.Flat.{IsFlat};
 ghost use Rattle.chain_model.specs.Folder.{Volumes};
@@ -22,10 +22,16 @@ ghost use Rattle.qcow_layer.specs.Opening.{place_kept};
 ghost use Rattle.qcow_layer.specs.declared.layer.Layer.{Layer};
 ghost use Rattle.settling_steps.specs.Lengthening.{width_of};
 ghost use Rattle.settling_steps.specs.Leftovers.{IsPaid, IsRise, KnowsNames};
-ghost use Rattle.volume_chain.specs.Chain.{open_in, records_kept};
+ghost use Rattle.qcow_format.specs.declared.header.Header.{Header};
+ghost use Rattle.settling_steps.specs.Names.{price};
+ghost use Rattle.volume_chain.specs.Chain.{IsShaped, open_in, path_in, records_kept};
 ghost use Rattle.volume_chain.specs.Knowing.{KnowsChain};
 ghost use Rattle.volume_chain.specs.Stages.{IsOpen};
+ghost use Rattle.volume_chain.specs.Left.{path_left, tables_left};
+ghost use Rattle.volume_chain.specs.Left as opening;
+ghost use Rattle.volume_chain.specs.Opening.{IsBegun};
 ghost use Rattle.volume_chain.specs.declared.chain.Chain.{Chain};
+ghost use Rattle.volume_chain.specs.declared.opening.ChainOpening.{ChainOpening};
 ghost use Rattle.chain_settling.specs.Alike.{HasTypeOf, ReadsAlike};
 ghost use Rattle.chain_settling.specs.Was.{IsOffLayers, file_in, folder_in, image_kept};
 ghost use Rattle.chain_settling.specs.Work.{IsLayerAt, IsRight};
@@ -69,14 +75,23 @@ pub fn known_settlings_stay_known()
 {}
 
 /// A law: how many steps a settling takes. `falls` of its steps makes one number fall, where the names that are listed are paid
-/// for. They are where the folder shows them and each costs what it takes, as twice what `chain_gathering` counts for it: for N
-/// names, among them f files and t texts of volumes, that is 2 N + 2 f + 4 t. The number begins at what all names cost, nine
-/// for each volume of the path, twelve for each volume, and five.
+/// for. They are where the folder shows them and each costs what it takes: two for a temporary name, and one for any other. The
+/// number begins at what all names cost, nine for each volume of the path, twelve for each volume, and five.
 pub fn settlings_are_short()
     ensures begun { (c : Chain) (s : Settling) (cost : Option Name → ℕ) → BeginsTidying c s → steps_left cost s ≡ cost None + 9 * length (open_in c) + 12 * length (records_kept c) + 5 }
     ensures paid { (s : Settling) (turn : SettlingTurn) (d : Content) (cost : Option Name → ℕ) → IsCost (folder_of s) d cost → Meets IsRise s turn → Meets (IsShown (folder_of s) d) s turn
         → Meets (IsPaid cost) s turn }
-    ensures counted { (dir : Dir) (d : Content) (names : List Name) → ((n : Name) → ShowsName d dir n → Contains names n) → IsCost dir d (λ before. 2 * cost_of names before) }
+    ensures counted { (dir : Dir) (d : Content) (names : List Name) → ((n : Name) → ShowsName d dir n → Contains names n) → IsCost dir d (cost_by price names) }
+{}
+
+/// A law: how many steps an opening and the settling of the chain that it hands out take together. For N names, which the folder
+/// shows, and n volumes, the numbers that their steps make fall begin below 64 + 4 N + 32 n and what the tables of the path's
+/// layers cost: T tables of q sectors cost 2 T q. `openings_are_short` says when the first one falls, and `settlings_are_short`
+/// when the second one does; an opening hands out a chain of such a shape on every disk.
+pub fn openings_and_settlings_are_short()
+    ensures { (o : ChainOpening) (c : Chain) (s : Settling) (sd id : Id) (version : ℕ) (names : List Name) (heads : Id → Header) (tables : Id → ℕ → ℕ) → IsBegun o sd id version → IsShaped c → BeginsTidying c s
+        → opening.steps_left (cost_of names) heads tables (path_left heads tables (path_in c)) o + steps_left (cost_by price names) s
+        ≤ 64 + 4 * length names + 32 * length (records_kept c) + sum_by (tables_left heads tables) (path_in c) }
 {}
 
 /// A law: the chain of a settled image is known as that of an opening, and nothing is unsynced in the files and texts of its

@@ -27,7 +27,7 @@ use Rattle.chain_model.specs.Folder.{Volumes}
 use Rattle.chain_model.specs.Records.{records_of}
 use Rattle.chain_gathering.specs.Names.{cost_of, price}
 use Rattle.chain_gathering.specs.Steps.{IsPaid}
-use Rattle.chain_gathering.proofs.Costs.{cost_of_all}
+use Rattle.chain_gathering.proofs.Costs.{cost_by_all}
 use Rattle.volume_chain.specs.Chain.{image_in}
 use Rattle.volume_chain.specs.Knowing.{IsNextLayer, StageKnows, StageShaped}
 use Rattle.volume_chain.specs.Left.{EntersFrom, HasHeaderAt, HaveTables, OpensTablesAt, left_at, path_left, steps_left, tables_left}
@@ -68,7 +68,7 @@ names_cost : (ns : List Name) → sum_by price ns ≤ 3 * length ns
 names_cost [] = omega arith
 names_cost (n ∷ ns) = omega (arith, sum_by-cons price n ns, names_cost ns, cheap n)
 
-path_cost : (heads : Id → Header) (tables : Id → ℕ → ℕ) (path : List Id) → sum_by (volume_cost heads tables) path ≡ sum_by (tables_left heads tables) path + 7 * length path
+pub path_cost : (heads : Id → Header) (tables : Id → ℕ → ℕ) (path : List Id) → sum_by (volume_cost heads tables) path ≡ sum_by (tables_left heads tables) path + 7 * length path
 path_cost heads tables [] = refl
 path_cost heads tables (v ∷ vs) = omega (arith, sum_by-cons (volume_cost heads tables) v vs, sum_by-cons (tables_left heads tables) v vs, path_cost heads tables vs)
 
@@ -78,7 +78,7 @@ in_all left cost along tables names path n a b c d = omega (arith, a, b, c, d)
 pub begun_short : (o : ChainOpening) (sd id : Id) (version n : ℕ) (ns : List Name) (heads : Id → Header) (tables : Id → ℕ → ℕ) (path : List Id) → IsBegun o sd id version → length path ≤ n
     → steps_left (cost_of ns) heads tables (path_left heads tables path) o ≤ 64 + 4 * length ns + 32 * n + sum_by (tables_left heads tables) path
 begun_short o sd id version n ns heads tables path begun short =
-    let names : cost_of ns None ≤ 3 * length ns = omega (arith, cost_of_all ns, names_cost ns) in
+    let names : cost_of ns None ≤ 3 * length ns = omega (arith, cost_by_all price ns, names_cost ns) in
     in_all (steps_left (cost_of ns) heads tables (path_left heads tables path) o) (cost_of ns None) (sum_by (volume_cost heads tables) path) (sum_by (tables_left heads tables) path) (length ns) (length path) n
     (begun.left (cost_of ns) heads tables (path_left heads tables path)) names (path_cost heads tables path) short
 
