@@ -66,14 +66,14 @@ module _ (c : Chain) (v : Id) (host : ℕ) (d e : Content) (only : OnlyChanges (
   pub rest_kept : AreSettledBut (dir_in c.target) v d → AreSettledBut (dir_in c.target) v e
   rest_kept rest = λ o f other there. rest o f other (sym (others (name_of o) other) ∙ there)
 
-  elsewhere : (u : Id) (q : Option VolumeRecord) (o : OpenVolume) → u ≢ v → IsOpenAs c.target u q o → IsKnown c.target host d u o → IsKnown c.target host e u o
+  pub elsewhere : (u : Id) (q : Option VolumeRecord) (o : OpenVolume) → u ≢ v → IsOpenAs c.target u q o → IsKnown c.target host d u o → IsKnown c.target host e u o
   elsewhere u q (Raw n) other open_as known = (known.0, others (name.Volume u) (file_apart u v other) ∙ known.1, known.2)
   elsewhere u None (Cow l) other open_as known = absurd open_as
   elsewhere u (Some x) (Cow l) other open_as known =
       let at : l.target.place ≡ place_in c.target u = ap (λ (t : layer.Target). t.place) open_as.1 in
       known_untouched l host d e (subst (λ (p : Place). e.file p ≡ d.file p) (sym at) (others (name.Volume u) (file_apart u v other))) known
 
-  there_still : (f g : File) → d.file (place_in c.target v) ≡ Some f → e.file (place_in c.target v) ≡ Some g → (u : Id) → is_some (d.file (place_in c.target u)) ≡ is_some (e.file (place_in c.target u))
+  pub there_still : (f g : File) → d.file (place_in c.target v) ≡ Some f → e.file (place_in c.target v) ≡ Some g → (u : Id) → is_some (d.file (place_in c.target u)) ≡ is_some (e.file (place_in c.target u))
   there_still f g was now u = by (id_cases u v)
     where
       here : is_some (d.file (place_in c.target v)) ≡ is_some (e.file (place_in c.target v))

@@ -1,0 +1,6 @@
+//! What a chain knows while the layer of one of its volumes is written: laws as functions without code.
+#![tactic(auto)]
+
+mod laws;
+
+pub use laws::{layers_are_written, writes_begin, writes_end};
