@@ -57,3 +57,10 @@ along_with R (w ∷ ws) (p ∷ ps) (suc k) v o apart at is here along = (
   along.0 (λ same. apart.0 (subst (λ (u : Id). Contains ws u) (sym same) (next_among ws k v at))),
   along_with R ws ps k v o apart.1 at is here along.1,
 )
+
+pub set_there : (os : List OpenVolume) (k j : ℕ) (o : OpenVolume) → j ≢ k → slice_get (slice_set os k o) j ≡ slice_get os j
+set_there [] k j o other = refl
+set_there (p ∷ os) zero zero o other = absurd (other refl)
+set_there (p ∷ os) zero (suc j) o other = refl
+set_there (p ∷ os) (suc k) zero o other = refl
+set_there (p ∷ os) (suc k) (suc j) o other = set_there os k j o (λ e. other (ap (λ (n : ℕ). suc n) e))

@@ -37,7 +37,7 @@ use Rattle.guest_laws.proofs.Paths.{along_at, along_set, along_with, set_here, s
 
 -- ---- the layer of the volume
 
-open_as : (c : Chain) (l : Laying) (x : VolumeRecord) (index : ℕ) (w : Layer) → IsPartOf l c x → IsShaped c → slice_get c.path index ≡ Some l.volume → slice_get c.volumes index ≡ Some (Cow w)
+pub open_as : (c : Chain) (l : Laying) (x : VolumeRecord) (index : ℕ) (w : Layer) → IsPartOf l c x → IsShaped c → slice_get c.path index ≡ Some l.volume → slice_get c.volumes index ≡ Some (Cow w)
     → IsOpenAs c.target l.volume (Some x) (Cow w)
 open_as c l x index w of shape path layer =
     let says : records_in c.records l.volume ≡ Some x = ap (λ (r : Records). r l.volume) (sym of.records) ∙ of.says in
@@ -45,7 +45,7 @@ open_as c l x index w of shape path layer =
     (along_at (λ u o. IsOpenAs c.target u (records_in c.records u) o) c.path c.volumes index l.volume (Cow w) shape.each path layer)
 
 -- its file stands where the layer has it
-layer_place : (c : Chain) (l : Laying) (x : VolumeRecord) (w : Layer) → IsOpenAs c.target l.volume (Some x) (Cow w) → w.target.place ≡ place_in c.target l.volume
+pub layer_place : (c : Chain) (l : Laying) (x : VolumeRecord) (w : Layer) → IsOpenAs c.target l.volume (Some x) (Cow w) → w.target.place ≡ place_in c.target l.volume
 layer_place c l x w is = ap (λ (t : layer.Target). t.place) is.1
 
 pub of_volume : (c : Chain) (index : ℕ) (w : Layer) (l : Laying) (x : VolumeRecord) (host : ℕ) (start : Folder) (f : File) (d : Content) → KnowsWrite c index w l x host start f d

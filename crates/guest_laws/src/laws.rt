@@ -1,18 +1,21 @@
 // Laws of a chain whose layer is written: contracts of functions that do nothing.
-ghost use Rattle.std.specs.Prelude.{◌≡◌, ℕ, slice_get, true, Some};
+ghost use Rattle.std.specs.Prelude.{◌≡◌, ◌≢◌, ℕ, slice_get, true, Some};
 ghost use Rattle.shared_disk.specs.Calls.{IsPut};
 ghost use Rattle.shared_disk.specs.Content.{Content, File};
 ghost use Rattle.shared_disk.specs.Crash.{IsSettled, OnEach};
+ghost use Rattle.sd_names.specs.declared.id.Id.{Id};
 ghost use Rattle.sd_names.specs.declared.kinds.Format.TheVariants.{Cow as CowFormat};
 ghost use Rattle.volume_meta.specs.declared.record.VolumeRecord.{VolumeRecord};
 ghost use Rattle.qcow_layer.specs.Knowing.{KnowsLayer};
 ghost use Rattle.qcow_layer.specs.Opening.{capacity_kept, place_kept, target_kept};
 ghost use Rattle.qcow_layer.specs.declared.layer.Layer.{Layer};
-ghost use Rattle.chain_model.specs.Folder.{Folder, folder_of};
+ghost use Rattle.chain_model.specs.Folder.{Folder, Volumes, folder_of};
 ghost use Rattle.chain_laws.specs.Laid.{Laying};
 ghost use Rattle.chain_laws.specs.Written.{FileWritten};
 ghost use Rattle.part_laws.specs.Steps.{HoldsIn};
 ghost use Rattle.chain_gathering.specs.Knowing.{AreSettled};
+ghost use Rattle.chain_reading.specs.Knowing.{KnowsImage};
+ghost use Rattle.chain_reading.specs.Reading.{IsAskedFrom};
 ghost use Rattle.volume_chain.specs.Chain.{dir_in, open_in, path_in, target_of};
 ghost use Rattle.volume_chain.specs.Knowing.{KnowsChain};
 ghost use Rattle.volume_chain.specs.LendingChain.{with_layer_at};
@@ -43,4 +46,11 @@ pub fn layers_are_written()
 pub fn writes_end()
     ensures { (c : Chain) (index : ℕ) (w : Layer) (l : Laying) (x : VolumeRecord) (host : ℕ) (start : Folder) (f : File) (d : Content) → KnowsWrite c index w l x host start f d → KnowsLayer w host f → IsSettled f
         → OnEach f (HoldsIn l x (λ _. true)) → IsOnMedium c l host d }
+{}
+
+/// A law: the volumes below the one that is written can be read all the while.
+pub fn lower_volumes_stay_known()
+    ensures { (c : Chain) (index : ℕ) (w next : Layer) (l : Laying) (x : VolumeRecord) (host : ℕ) (start : Folder) (f now : File) (d e : Content) (u : Id) (y : Volumes) → KnowsWrite c index w l x host start f d
+        → target_kept next ≡ target_kept w → IsPut d (place_kept w) (Some now) e → FileWritten l f now → ((z : Id) → IsAskedFrom c u z → z ≢ l.volume) → KnowsImage c u host y d
+        → KnowsImage (with_layer_at c index next) u host y e }
 {}

@@ -3,4 +3,4 @@
 
 mod laws;
 
-pub use laws::{layers_are_written, writes_begin, writes_end};
+pub use laws::{layers_are_written, lower_volumes_stay_known, writes_begin, writes_end};
