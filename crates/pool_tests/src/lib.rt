@@ -1,8 +1,10 @@
-//! Tests of making a pool, of its manager's role and its taking, and of its hosts, over disks in memory.
+//! Tests of making a pool, of its manager's role, its taking and the listing of tasks, and of its hosts, over disks in memory.
 #![tactic(auto)]
 
 #[cfg(test)]
 mod host;
+#[cfg(test)]
+mod listing;
 #[cfg(test)]
 mod making;
 #[cfg(test)]
