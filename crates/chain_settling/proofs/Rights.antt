@@ -6,6 +6,8 @@ use Rattle.sd_names.specs.declared.id.Id.{Id}
 use Rattle.sd_names.specs.declared.kinds.VolType.{VolType}
 use Rattle.shared_disk.specs.Content.{Content}
 use Rattle.shared_disk.proofs.Outcomes.{contains_here}
+use Rattle.layer_creating.specs.declared.backing.Backing.{Backing}
+use Rattle.qcow_layer.specs.declared.layer.Layer.{Layer}
 use Rattle.volume_meta.specs.declared.record.VolumeRecord.{VolumeRecord}
 use Rattle.chain_gathering.specs.Knowing.{volumes_in}
 use Rattle.chain_model.specs.Chain.{AllCount, IsBelow, counting}
@@ -21,13 +23,13 @@ use Rattle.volume_chain.specs.declared.chain.Chain.{Chain}
 use Rattle.chain_settling.specs.Alike.{KnowsImage}
 use Rattle.chain_settling.specs.Knowing.{IsSettledImage}
 use Rattle.chain_settling.specs.Was.{folder_in, image_kept}
-use Rattle.chain_settling.specs.Work.{IsChange, IsRight, IsRightType}
+use Rattle.chain_settling.specs.Work.{IsBackingFor, IsChange, IsLayerAt, IsRight, IsRightType}
 use Rattle.chain_settling.specs.declared.stages.Part.{Part}
 use Rattle.chain_settling.specs.declared.stages.Part.TheVariants.{Parents, Types}
 use Rattle.chain_settling.specs.declared.texts.Change.{Change}
 use Rattle.chain_settling.specs.declared.texts.Change.TheVariants.{Parent, Voltype}
 use Rattle.chain_settling.proofs.Opened.{legal_record}
-use Rattle.chain_settling.proofs.Plans.{named_after, named_before, parent_by, partly, right_before}
+use Rattle.chain_settling.proofs.Plans.{backing_before, named_after, named_before, parent_by, partly, right_before}
 use Rattle.chain_settling.proofs.UpNames.{up_among}
 
 -- a record that names a volume that is passed over isn't rewritten yet
@@ -100,3 +102,11 @@ right_after r s v chains are typed = record {
 pub right_of_settled : (c : Chain) (host : ℕ) (r : Records) (x : Volumes) (d : Content) (v : Id) → IsSettledImage c host r x d → IsRight (records_of (image_kept c) (volumes_in (folder_in c) d)) v
 right_of_settled c host r x d v k =
     subst (λ (s : Records). IsRight s v) (λ j u. sym (k.said u) j) (right_after r (records_in (records_kept c)) v k.image.chains k.rewritten (k.typed v))
+
+-- nor a header, since each names the parent that counts
+pub heads_of_settled : (c : Chain) (host : ℕ) (r : Records) (x : Volumes) (d : Content) (b : ℕ) (l : Layer) (back : Backing) → IsSettledImage c host r x d → IsLayerAt c b l
+    → IsBackingFor (records_of (image_kept c) (volumes_in (folder_in c) d)) l (Some back) → ⊥
+heads_of_settled c host r x d b l back k is needs =
+    let now = subst (λ (s : Records). IsBackingFor s l (Some back)) (λ j u. k.said u j) needs in
+    let old = backing_before r (records_in (records_kept c)) l back k.image.chains k.image.partly now in
+    old.1 (k.told b l is back.parent old.2 old.0 old.3)

@@ -1,5 +1,5 @@
 // Laws of images that are settled: contracts of functions that do nothing.
-ghost use Rattle.std.specs.Prelude.{◌≡◌, ◌≢◌, ◌+◌, ◌*◌, ◌^◌, ◌≤◌, ℕ, List, length, sum_by, Contains, Option, None};
+ghost use Rattle.std.specs.Prelude.{◌≡◌, ◌≢◌, ◌+◌, ◌*◌, ◌^◌, ◌≤◌, ℕ, List, length, sum_by, Contains, Option, Some, None};
 ghost use Rattle.sd_names.specs.declared.id.Id.{Id};
 ghost use Rattle.sd_names.specs.declared.place.Dir.{Dir};
 ghost use Rattle.sd_names.specs.declared.place.Name.{Name};
@@ -18,6 +18,7 @@ ghost use Rattle.chain_model.specs.Records.{Image, Records, records_of};
 ghost use Rattle.chain_records.specs.Paths.{HasChain};
 ghost use Rattle.chain_records.specs.Settling.{ArePartlyRewritten};
 ghost use Rattle.shared_disk.specs.WellFormed.{IsWellFormed};
+ghost use Rattle.layer_creating.specs.declared.backing.Backing.{Backing};
 ghost use Rattle.qcow_layer.specs.Opening.{place_kept};
 ghost use Rattle.qcow_layer.specs.declared.layer.Layer.{Layer};
 ghost use Rattle.settling_steps.specs.Lengthening.{width_of};
@@ -34,7 +35,7 @@ ghost use Rattle.volume_chain.specs.declared.chain.Chain.{Chain};
 ghost use Rattle.volume_chain.specs.declared.opening.ChainOpening.{ChainOpening};
 ghost use Rattle.chain_settling.specs.Alike.{HasTypeOf, ReadsAlike};
 ghost use Rattle.chain_settling.specs.Was.{IsOffLayers, file_in, folder_in, image_kept};
-ghost use Rattle.chain_settling.specs.Work.{IsLayerAt, IsRight};
+ghost use Rattle.chain_settling.specs.Work.{IsBackingFor, IsLayerAt, IsRight};
 ghost use Rattle.chain_settling.specs.declared.settling.Settling.{Settling};
 ghost use Rattle.chain_settling.specs.Fit.{AreValid};
 ghost use Rattle.chain_settling.specs.Knowing.{HaveRoom, IsSettledImage};
@@ -96,9 +97,10 @@ pub fn openings_and_settlings_are_short()
 
 /// A law: the chain of a settled image is known as that of an opening, and nothing is unsynced in the files and texts of its
 /// volumes, so that a reader or a writer of the chain can begin. `Settling::step` keeps each record valid. No text of a settled
-/// image has to change, so another settling leaves each as it is.
+/// image has to change, and no header of its path, so another settling leaves each as it is.
 pub fn settled_chains_are_known()
     ensures known { (c : Chain) (host : ℕ) (r : Records) (x : Volumes) (d : Content) → IsSettledImage c host r x d → AreValid c → KnowsChain c host d }
     ensures settled { (c : Chain) (host : ℕ) (r : Records) (x : Volumes) (d : Content) → IsSettledImage c host r x d → AreSettled (folder_in c) d }
     ensures right { (c : Chain) (host : ℕ) (r : Records) (x : Volumes) (d : Content) (v : Id) → IsSettledImage c host r x d → IsRight (records_of (image_kept c) (volumes_in (folder_in c) d)) v }
+    ensures heads { (c : Chain) (host : ℕ) (r : Records) (x : Volumes) (d : Content) (b : ℕ) (l : Layer) (back : Backing) → IsSettledImage c host r x d → IsLayerAt c b l → IsBackingFor (records_of (image_kept c) (volumes_in (folder_in c) d)) l (Some back) → ⊥ }
 {}

@@ -1,4 +1,4 @@
-use Rattle.chain_settling.proofs.Rights.{right_of_settled}
+use Rattle.chain_settling.proofs.Rights.{heads_of_settled, right_of_settled}
 use Rattle.chain_settling.proofs.Known.{all_settled, chain_known}
 use Rattle.chain_settling.proofs.laws.settled_chains_are_known.Goals as goal
 
@@ -10,3 +10,6 @@ returns-clause-settled c chain host r x d is = all_settled chain host r x d is
 
 pub returns-clause-right : goal.returns-clause-right
 returns-clause-right c chain host r x d v is = right_of_settled chain host r x d v is
+
+pub returns-clause-heads : goal.returns-clause-heads
+returns-clause-heads c chain host r x d b l back k is needs = heads_of_settled chain host r x d b l back k is needs
