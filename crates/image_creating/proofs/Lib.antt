@@ -1,0 +1,10 @@
+pub mod Sectors
+pub mod Reading
+pub mod Standing
+pub mod Apart
+pub mod Turns
+pub mod TaskSteps
+pub mod FileSteps
+pub mod Others
+pub mod Unsynced
+pub mod Begun

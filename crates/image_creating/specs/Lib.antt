@@ -1,0 +1,11 @@
+pub mod Texts
+pub mod ImageTask
+pub mod Stage
+pub mod Sectors
+pub mod Creating
+pub mod Standing
+pub mod Knowing
+pub mod Calls
+pub mod Inner
+pub mod Steps
+pub mod Others
