@@ -1,6 +1,8 @@
-//! Tests of making an image's files and of removing them, over disks in memory.
+//! Tests of making an image's files, of removing them, and of creating an image under a task, over disks in memory.
 #![tactic(auto)]
 
+#[cfg(test)]
+mod creating;
 #[cfg(test)]
 mod making;
 #[cfg(test)]

@@ -3,7 +3,7 @@ ghost use Rattle.std.specs.Prelude.{◌<◌, ◌≤◌};
 
 use crate::shared::{BEFORE, End, NEVER, OWN, VOLUME, at, disk_with, is_gone, make, remove};
 use memory_disk::{Memory, Pick};
-use sd_names::{Format, HostId, Name, NoMemory};
+use sd_names::{Format, HostId, Name, NoMemory, Place};
 use shared_disk::SharedDisk;
 use std::alloc::Global;
 use std::test::Fail;
@@ -27,19 +27,24 @@ const HEADER: [u8; 112] = [
     0, 0, 0, 0, 0, 0, 0, 0, 0, 4, 0, 0, 0, 104, 0, 0, 0, 0, 0, 0, 0, 0,
 ];
 
-// Whether a file begins with these bytes, and has zeros behind them up to this place.
-fn holds(disk: &Memory, name: Name, from: u64, bytes: &[u8], length: u64) -> bool {
+// Whether a sector of a file begins with these bytes, and has zeros behind them.
+pub fn holds_at(disk: &Memory, place: Place, from: u64, bytes: &[u8]) -> bool {
     let mut sector = [7; 512];
-    let mut behind = [7; 512];
-    disk.bytes(at(OWN, name), from, &mut sector) == Some(512)
+    disk.bytes(place, from, &mut sector) == Some(512)
         && bytes.len() <= 512
         && sector[..bytes.len()] == bytes[..]
         && sector[bytes.len()..].iter().all(|byte| *byte == 0)
+}
+
+// Whether a file begins with these bytes, and has zeros behind them up to this place.
+fn holds(disk: &Memory, name: Name, from: u64, bytes: &[u8], length: u64) -> bool {
+    let mut behind = [7; 512];
+    holds_at(disk, at(OWN, name), from, bytes)
         && disk.bytes(at(OWN, name), length, &mut behind) == Some(0)
 }
 
 // Whether the image stands there whole, as it was wanted.
-fn is_whole(disk: &mut Memory, host: HostId, format: Format) -> bool {
+pub fn is_whole(disk: &mut Memory, host: HostId, format: Format) -> bool {
     let names = disk.next_name(host, OWN, None) == Ok(Some(FILE))
         && disk.next_name(host, OWN, Some(FILE)) == Ok(Some(META))
         && disk.next_name(host, OWN, Some(META)) == Ok(None);
@@ -64,7 +69,7 @@ fn is_whole(disk: &mut Memory, host: HostId, format: Format) -> bool {
 }
 
 // The version of the domain of each image.
-fn version_for(format: Format) -> u8 {
+pub fn version_for(format: Format) -> u8 {
     match format {
         Format::Raw => 5,
         Format::Cow => 4,
@@ -72,7 +77,7 @@ fn version_for(format: Format) -> u8 {
 }
 
 // How many calls each takes: the folder; the raw file and its sync, or the layer's five; and the text's five.
-fn calls_for(format: Format) -> u16
+pub fn calls_for(format: Format) -> u16
     ensures { result ≤ 11 }
 {
     match format {

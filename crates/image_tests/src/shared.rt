@@ -1,5 +1,5 @@
 // What the tests share: the names of an image, and whole runs of its making and of its removal.
-ghost use Rattle.std.specs.Prelude.{IfOk};
+ghost use Rattle.std.specs.Prelude.{◌≡◌, IfOk};
 ghost use Rattle.volume_meta.specs.Valid.{IsCapacity};
 ghost use Rattle.image_making.specs.Record.{IsBase};
 
@@ -73,8 +73,9 @@ fn capacity_for(format: Format) -> u64
 }
 
 // The image that is made.
-fn new_image(alloc: Global, format: Format, version: u8) -> Result<NewImage, NoMemory>
-    ensures { IfOk result (λ new. IsBase new.says) }
+pub fn new_image(alloc: Global, format: Format, version: u8) -> Result<NewImage, NoMemory>
+    ensures base { IfOk result (λ new. IsBase new.says) }
+    ensures image { IfOk result (λ new. new.says.image ≡ IMAGE) }
 {
     let shape = Shape {
         format,
