@@ -1,24 +1,20 @@
 -- What a step of a creation leaves alone, by the work that it does.
-use Rattle.std.proofs.Common.{◌≡◌, ◌≢◌, ◌⊎◌, ℕ, true, false, List, Option, Some, None, refl, sym, ap, ◌∙◌, subst, inl, inr}
-use Rattle.sd_names.specs.declared.place.Dir.{Dir}
+use Rattle.std.proofs.Common.{◌≡◌, ◌≢◌, ℕ, refl, sym, ap, ◌∙◌, inl}
 use Rattle.sd_names.specs.declared.place.Dir.TheVariants as dir
-use Rattle.sd_names.specs.declared.place.Name.{Name}
 use Rattle.sd_names.specs.declared.place.Name.TheVariants as name
 use Rattle.sd_names.specs.declared.place.Place.{Place}
 use Rattle.shared_disk.specs.Calls.{IsSame}
-use Rattle.shared_disk.specs.Changes.{exchanged}
 use Rattle.shared_disk.specs.Content.{Content, File}
 use Rattle.shared_disk.specs.NameCalls.{place_in}
 use Rattle.shared_disk.proofs.AtPlace.{one_file}
 use Rattle.lease_area.specs.Hold.{IsMoved, Stands, leases_of}
 use Rattle.lease_area.specs.Sector.{sector_bytes}
 use Rattle.lease_area.specs.declared.sector.Sector.{Sector}
-use Rattle.lease_area.specs.declared.sector.Sector.TheVariants.{Empty}
 use Rattle.whole_file.specs.Replace.{IsApart as IsApartFrom}
 use Rattle.image_making.specs.NewImage.{IsImage, folder_of, text_place, volatile_place, volume_place}
 use Rattle.image_making.specs.Steps.{IsApart as IsApartMaking}
 use Rattle.image_making.specs.declared.making.NewImage.{NewImage}
-use Rattle.image_creating.specs.ImageTask.{domain_of, free, held, image_of, master_of, new_place_of, place_of}
+use Rattle.image_creating.specs.ImageTask.{domain_of, master_of, new_place_of, place_of}
 use Rattle.image_creating.specs.Steps.{IsApart, IsExchangedFor, IsSectorLeft}
 use Rattle.image_creating.specs.declared.image_task.ImageTask.{ImageTask}
 

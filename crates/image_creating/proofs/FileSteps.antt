@@ -1,10 +1,8 @@
 -- What the steps leave that take the sector, make the files, write the text of the task that is done, and free the sector.
-use Rattle.std.proofs.Common.{◌≡◌, ◌≢◌, ◌⊎◌, ℕ, ◌+◌, ◌<◌, true, false, if◌then◌else◌, Bool, List, Option, Some, None, Result, Ok, Err, eq-eqb, refl, sym, ap, ◌∙◌, subst, inl, inr, arith}
-use Rattle.std.specs.Str.{bytes_eq}
+use Rattle.std.proofs.Common.{◌≡◌, ◌⊎◌, ℕ, ◌<◌, true, List, Option, Some, Result, Ok, Err, eq-eqb, refl, sym, ap, ◌∙◌, subst, inl, inr, arith}
 use Rattle.std.proofs.lemmas.Slice.Eq.{bytes_eq-Decides}
 use Rattle.sd_names.specs.UpSet.{Hosts}
 use Rattle.sd_names.specs.declared.id.Id.{Id}
-use Rattle.sd_names.specs.declared.place.Dir.{Dir}
 use Rattle.sd_names.specs.declared.place.Dir.TheVariants as dir
 use Rattle.sd_names.specs.declared.place.Place.{Place}
 use Rattle.sd_names.specs.declared.refusal.Refusal.{Refusal}
@@ -14,14 +12,13 @@ use Rattle.shared_disk.specs.Calls.{IsSame}
 use Rattle.shared_disk.specs.Changes.{exchanged}
 use Rattle.shared_disk.specs.Content.{Content, File}
 use Rattle.shared_disk.specs.Crash.{IsSettled}
-use Rattle.shared_disk.specs.Step.{GoesOn}
 use Rattle.shared_disk.specs.WellFormed.{IsWellFormed}
 use Rattle.shared_disk.proofs.AtPlace.{one_file}
 use Rattle.shared_disk.proofs.Toolkit.{exchanged_settled}
-use Rattle.lease_area.specs.Hold.{ByOneExchange, GivesUp, IsMoved, Stands, Takes as TakesSector, answer_at, domain_of as lease_domain, image_answer_to, image_refusal, leases_of, met_answer, record_of, slot_of}
+use Rattle.lease_area.specs.Hold.{ByOneExchange, GivesUp, IsMoved, Stands, Takes as TakesSector, answer_at, domain_of as lease_domain, image_answer_to, image_refusal, leases_of, record_of, slot_of}
 use Rattle.lease_area.specs.Move.{freed, made_by}
 use Rattle.lease_area.specs.Record.{IsImageSlot}
-use Rattle.lease_area.specs.Sector.{sector_bytes, sector_in}
+use Rattle.lease_area.specs.Sector.{sector_bytes}
 use Rattle.lease_area.specs.declared.lease.Lease.{Lease as Held}
 use Rattle.lease_area.specs.declared.sector.Kind.TheVariants.{Task as ForTask}
 use Rattle.lease_area.specs.declared.sector.LeaseRecord.{LeaseRecord}
@@ -31,21 +28,20 @@ use Rattle.lease_area.proofs.ByExchange.{leaves}
 use Rattle.task_files.specs.TaskFile.{HasTask}
 use Rattle.task_files.specs.Write.{WriteSteps, file_of, volatile_of}
 use Rattle.task_files.specs.declared.write.TaskWrite.{TaskWrite}
-use Rattle.image_making.specs.Making.{image_of as made_in, stage_of as making_stage}
+use Rattle.image_making.specs.Making.{image_of as made_in}
 use Rattle.image_making.specs.NewImage.{IsImage, IsNoneOrWhole, folder_of, text_place}
 use Rattle.image_making.specs.Steps.{IsReady as IsMakingReady, Knows as KnowsMaking, MakeSteps, MakeTurn}
 use Rattle.image_making.specs.declared.making.ImageMaking.{ImageMaking}
 use Rattle.image_making.specs.declared.making.NewImage.{NewImage}
 use Rattle.image_making.specs.declared.making.Stage.{Stage as MakingStage}
 use Rattle.image_making.specs.declared.making.Stage.TheVariants as making
-use Rattle.image_creating.specs.Calls.{IsEnded, IsLeaseAt, IsMadeBy, ReleasedBy, TakenBy, WriteTurn}
+use Rattle.image_creating.specs.Calls.{IsEnded, IsMadeBy, ReleasedBy, TakenBy, WriteTurn}
 use Rattle.image_creating.specs.Creating.{CreateTurn}
-use Rattle.image_creating.specs.ImageTask.{HasSector, IsDone, IsOpen, domain_of, free, held, image_of, master_of, new_place_of, place_of}
+use Rattle.image_creating.specs.ImageTask.{IsDone, IsOpen, domain_of, free, held, image_of, master_of, place_of}
 use Rattle.image_creating.specs.Inner.{IsSameImage, IsSameText}
-use Rattle.image_creating.specs.Knowing.{IsEnding, IsFor, IsHeld, IsMakingFiles, IsReleasing, IsTaking, IsWriting}
-use Rattle.image_creating.specs.Sectors.{IsLeastEmpty, IsUnnamed}
-use Rattle.image_creating.specs.Standing.{IsBeingMade, IsCreated, IsMade}
-use Rattle.image_creating.specs.Steps.{After, IsSectorLeft, StepsIn}
+use Rattle.image_creating.specs.Knowing.{IsEnding, IsHeld, IsMakingFiles, IsPlaced, IsReleasing, IsTaking}
+use Rattle.image_creating.specs.Standing.{IsCreated, IsMade, IsStanding}
+use Rattle.image_creating.specs.Steps.{After, StepsIn}
 use Rattle.image_creating.specs.declared.creating.Stage.TheVariants.{Taking, Making, Ending, Releasing}
 use Rattle.image_creating.specs.declared.image_task.ImageTask.{ImageTask}
 use Rattle.image_creating.proofs.Apart.{apart_image, apart_same, apart_sector, apart_text, files_at_lease, files_beside, image_left, leases_at_image, leases_not_new, leases_not_task, task_at_image, tasks_not_folder}
@@ -157,7 +153,7 @@ module _ (t : ImageTask) (x : NewImage) (m : ImageMaking) (slot host faults : �
   same_after : IsSame d e → After turn t x host faults d e → StepsIn (Taking m slot) t x host faults turn d e
   same_after same after = record {
     apart = apart_same t x host d e same;
-    leaves = standing_on_each t x host e (inl (absent t x m slot host e well (subst (λ (c : Content). Rattle.image_creating.specs.Knowing.IsPlaced t x m slot c) (sym same) known.placed)
+    leaves = standing_on_each t x host e (inl (absent t x m slot host e well (subst (λ (c : Content). IsPlaced t x m slot c) (sym same) known.placed)
         (inr (subst (λ (c : Content). IsOpen t c) (sym same) known.task))));
     after = after;
   }
@@ -268,7 +264,7 @@ module _ (t : ImageTask) (x : NewImage) (lease : Held) (w : TaskWrite) (host fau
   done_now has = subst (λ (p : Place). HasTask p (Some t.done) e) known.writing.file has
 
   abbrev StandsNow : Type 0
-  StandsNow = Rattle.image_creating.specs.Standing.IsStanding t x host e
+  StandsNow = IsStanding t x host e
 
   still_open : (step : WriteTurn) → Writes step → IsOpen t e → StandsNow
   still_open step writes is = inr (inl (record { task = is; sector = (slot_of lease, (held_by step writes).stands); files = inr (image_by step writes) }))

@@ -1,6 +1,6 @@
 -- What a creation knows, through changes of others.
-use Rattle.std.proofs.Common.{◌≡◌, ◌⊎◌, ℕ, ◌<◌, Option, Some, None, refl, sym, ap, ◌∙◌, subst, inl, inr}
-use Rattle.sd_names.specs.declared.place.Dir.TheVariants.{Images, Tasks}
+use Rattle.std.proofs.Common.{◌≡◌, ℕ, ◌<◌, Option, Some, None, refl, sym, ap, ◌∙◌, subst, inl, inr}
+use Rattle.sd_names.specs.declared.place.Dir.TheVariants.{Images}
 use Rattle.sd_names.specs.declared.place.Place.{Place}
 use Rattle.shared_disk.specs.Content.{Content, File}
 use Rattle.shared_disk.specs.Crash.{DownLeaves, IsSettledFor}
@@ -19,9 +19,8 @@ use Rattle.image_making.specs.Steps.{Knows as KnowsMaking}
 use Rattle.image_making.specs.declared.making.ImageMaking.{ImageMaking}
 use Rattle.image_making.specs.declared.making.NewImage.{NewImage}
 use Rattle.image_creating.specs.ImageTask.{HasNone, IsDone, IsOpen, domain_of, image_of, new_place_of, place_of}
-use Rattle.image_creating.specs.Knowing.{IsEnding, IsFresh, IsHeld, IsMakingFiles, IsNew, IsOpening, IsPlaced, IsReady, IsReleasing, IsScanning, IsTaking, IsWriting}
+use Rattle.image_creating.specs.Knowing.{IsFresh, IsHeld, IsPlaced, IsReady, IsScanning, IsWriting}
 use Rattle.image_creating.specs.Others.{IsKeptByOthers, IsOwnPlace}
-use Rattle.image_creating.specs.Sectors.{KeepsSectors}
 use Rattle.image_creating.specs.declared.creating.Stage.{Stage}
 use Rattle.image_creating.specs.declared.creating.Stage.TheVariants.{Asking, Scanning, Opening, Taking, Making, Ending, Releasing}
 use Rattle.image_creating.specs.declared.image_task.ImageTask.{ImageTask}

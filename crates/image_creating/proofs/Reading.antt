@@ -1,5 +1,5 @@
 -- The steps of a scan, whose sectors others keep: what they have seen still stands.
-use Rattle.std.proofs.Common.{◌≡◌, ◌≢◌, ◌⊎◌, ℕ, ◌+◌, ◌*◌, ◌/◌, ◌<◌, ◌≤◌, ◌==◌, if◌then◌else◌, List, [], length, Option, Some, None, eq-eqb, refl, sym, ap, ◌∙◌, subst, inl, inr, arith}
+use Rattle.std.proofs.Common.{◌≡◌, ◌⊎◌, ℕ, ◌+◌, ◌/◌, ◌<◌, ◌≤◌, ◌==◌, if◌then◌else◌, List, [], length, Option, Some, None, eq-eqb, refl, sym, ap, ◌∙◌, subst, inl, inr, arith}
 use Rattle.std.proofs.lemmas.Bool.Decides.{nat_tests}
 use Rattle.std.proofs.Math.Decide.{dec_lt}
 use Rattle.std.specs.Prelude.{false}
@@ -9,15 +9,13 @@ use Rattle.shared_disk.proofs.AtPlace.{one_file}
 use Rattle.shared_disk.proofs.Toolkit.{sees_settled}
 use Rattle.lease_area.specs.Hold.{leases_of}
 use Rattle.lease_area.specs.Noted.{nothing_seen}
-use Rattle.lease_area.specs.Record.{IsImageSlot}
 use Rattle.lease_area.specs.Scan.{Looks}
-use Rattle.lease_area.specs.Sector.{sector_in}
 use Rattle.lease_area.specs.WholeScan.{HasLease, IsEmptySector, IsLeast, IsReadIn, IsScan, sector_read}
 use Rattle.lease_area.specs.declared.scanned.Scanned.{Scanned}
 use Rattle.lease_area.specs.declared.sector.LeaseRecord.{LeaseRecord}
 use Rattle.lease_area.proofs.WholeScan.{all_read, empty_least, found_least}
 use Rattle.image_creating.specs.Knowing.{IsReadSince}
-use Rattle.image_creating.specs.Sectors.{IsArea, IsEmpty, IsFullFile, IsLeastEmptyIn, IsNamedIn, IsSectorKept, IsUnnamedIn, KeepsSectors, Names}
+use Rattle.image_creating.specs.Sectors.{IsArea, IsEmpty, IsFullFile, IsLeastEmptyIn, IsNamedIn, IsSectorKept, IsUnnamedIn, KeepsSectors}
 use Rattle.image_creating.proofs.Sectors.{empty_back, empty_kept, keeps_both, keeps_itself, names_back, names_kept}
 
 -- ---- one more

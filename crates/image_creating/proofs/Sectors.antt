@@ -1,30 +1,23 @@
 -- Lease sectors that others keep.
-use Rattle.std.proofs.Common.{◌≡◌, ◌≢◌, ◌⊎◌, ℕ, ◌<◌, List, Option, Some, None, refl, sym, ap, ◌∙◌, subst, inl, inr, arith}
+use Rattle.std.proofs.Common.{◌≡◌, ℕ, List, Option, Some, None, refl, sym, ap, ◌∙◌, inl, inr}
 use Rattle.std.specs.Option.{option_map}
 use Rattle.std.specs.Str.{bytes_eq}
 use Rattle.std.specs.Prelude.{Bool, true, false, replicate, if◌then◌else◌}
 use Rattle.std.proofs.lemmas.Option.{none-some}
 use Rattle.std.proofs.lemmas.Slice.Eq.{bytes_eq-Decides}
 use Rattle.sd_names.specs.declared.id.Id.{Id}
-use Rattle.shared_disk.specs.Content.{Content, File}
-use Rattle.shared_disk.specs.Crash.{IsSettled}
-use Rattle.shared_disk.proofs.AtPlace.{one_file}
-use Rattle.lease_area.specs.Hold.{Stands, leases_of}
-use Rattle.lease_area.specs.Record.{IsImageSlot}
+use Rattle.shared_disk.specs.Content.{File}
 use Rattle.lease_area.specs.Sector.{record_in, sector_bytes, sector_in}
 use Rattle.lease_area.specs.declared.sector.LeaseRecord.{LeaseRecord}
 use Rattle.lease_area.specs.declared.sector.Sector.{Sector}
 use Rattle.lease_area.specs.declared.sector.Sector.TheVariants.{Empty, Lease}
-use Rattle.image_creating.specs.Sectors.{IsArea, IsEmpty, IsFullFile, IsLeastEmpty, IsLeastEmptyIn, IsNamedIn, IsSectorKept, IsUnnamed, IsUnnamedIn, KeepsLeases, KeepsSectors, Names}
+use Rattle.image_creating.specs.Sectors.{IsArea, IsEmpty, IsLeastEmptyIn, IsSectorKept, IsUnnamedIn, KeepsSectors, Names}
 
 -- the image that a sector names; where it names none, this one
 image_in : Id → Option Sector → Id
 image_in other None = other
 image_in other (Some Empty) = other
 image_in other (Some (Lease r)) = r.image
-
-abbrev Two : LeaseRecord → LeaseRecord → Option Sector → Type 0
-Two r s o = (o ≡ Some (Lease r)) × (o ≡ Some (Lease s))
 
 -- one sector names one image
 same_image : (r s : LeaseRecord) (o : Option Sector) → o ≡ Some (Lease r) → o ≡ Some (Lease s) → r.image ≡ s.image

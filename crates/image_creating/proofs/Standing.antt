@@ -1,21 +1,17 @@
 -- What stands of a created image stands on each outcome.
-use Rattle.std.proofs.Common.{◌≡◌, ◌≢◌, ◌⊎◌, ℕ, Option, Some, None, sym, ap, ◌∙◌, subst, inl, inr}
-use Rattle.sd_names.specs.declared.place.Name.{Name}
-use Rattle.sd_names.specs.declared.place.Name.TheVariants as name
-use Rattle.sd_names.specs.declared.place.Place.{Place}
-use Rattle.shared_disk.specs.Content.{Content, File}
+use Rattle.std.proofs.Common.{◌⊎◌, ℕ, Some, None, ◌∙◌, inl, inr}
+use Rattle.shared_disk.specs.Content.{Content}
 use Rattle.shared_disk.specs.Crash.{IsFileOutcome, IsOutcome}
 use Rattle.shared_disk.proofs.AtPlace.{also_none, settled_stays}
 use Rattle.lease_area.specs.Hold.{leases_of}
 use Rattle.lease_area.specs.declared.sector.Sector.{Sector}
-use Rattle.task_store.specs.declared.task.Task.{Task}
 use Rattle.task_files.proofs.Lives.{task_stays}
-use Rattle.image_making.specs.NewImage.{IsImage, text_place}
+use Rattle.image_making.specs.NewImage.{text_place}
 use Rattle.image_making.specs.declared.making.NewImage.{NewImage}
 use Rattle.image_making.proofs.Parts.{image_stays, on_each}
-use Rattle.image_creating.specs.ImageTask.{HasNone, HasSector, IsDone, IsOpen, domain_of, free, held, image_of, place_of}
+use Rattle.image_creating.specs.ImageTask.{HasNone, HasSector, IsOpen, domain_of, free, held, image_of, place_of}
 use Rattle.image_creating.specs.Sectors.{IsUnnamed}
-use Rattle.image_creating.specs.Standing.{IsAbsent, IsBeingMade, IsCreated, IsMade, IsStanding, IsStandingOnEach}
+use Rattle.image_creating.specs.Standing.{IsAbsent, IsCreated, IsMade, IsStanding, IsStandingOnEach}
 use Rattle.image_creating.specs.declared.image_task.ImageTask.{ImageTask}
 
 module _ (t : ImageTask) (x : NewImage) (host : ℕ) (d o : Content) (out : IsOutcome d o) where

@@ -1,7 +1,5 @@
 -- What the steps leave that ask for the folder, read the sectors, and write the open task's text.
-use Rattle.std.proofs.Common.{◌≡◌, ◌≢◌, ◌⊎◌, ℕ, ◌+◌, ◌-◌, true, false, List, length, Option, Some, None, Result, Ok, Err, refl, sym, ap, ◌∙◌, subst, inl, inr, arith}
-use Rattle.std.proofs.lemmas.Bool.{false≢true}
-use Rattle.std.proofs.lemmas.Option.{none-some}
+use Rattle.std.proofs.Common.{◌≡◌, ◌⊎◌, ℕ, ◌+◌, false, List, length, Option, Some, None, Result, Ok, Err, refl, sym, ap, ◌∙◌, subst, inl, inr, arith}
 use Rattle.sd_names.specs.declared.id.Id.{Id}
 use Rattle.sd_names.specs.declared.place.Dir.{Dir}
 use Rattle.sd_names.specs.declared.place.Dir.TheVariants as dir
@@ -12,15 +10,14 @@ use Rattle.sd_names.specs.declared.refusal.Refusal.TheVariants.{DiskFault, Image
 use Rattle.sd_names.specs.declared.turn.Turn.{Turn}
 use Rattle.sd_names.specs.declared.turn.Turn.TheVariants.{More, Done, Ended}
 use Rattle.shared_disk.specs.Calls.{IsSame}
-use Rattle.shared_disk.specs.Content.{Content, File}
-use Rattle.shared_disk.specs.Step.{GoesOn}
+use Rattle.shared_disk.specs.Content.{Content}
+use Rattle.shared_disk.specs.Refusal.{refusal_of}
 use Rattle.shared_disk.specs.WellFormed.{IsWellFormed}
 use Rattle.shared_disk.specs.declared.disk.DiskAnswer.{DiskAnswer}
 use Rattle.shared_disk.specs.declared.disk.DiskAnswer.TheVariants.{NoFile, Exists, OutOfFile, NotEmpty, Failed}
 use Rattle.shared_disk.specs.NameCalls.{NextName}
-use Rattle.shared_disk.proofs.AtPlace.{no_file, one_file}
+use Rattle.shared_disk.proofs.AtPlace.{no_file}
 use Rattle.lease_area.specs.Hold.{leases_of}
-use Rattle.lease_area.specs.Noted.{nothing_seen}
 use Rattle.lease_area.specs.Scan.{Looks, ScanSteps, scan_domain, scan_image, seen_by, steps_made}
 use Rattle.lease_area.specs.declared.scan.Scan.{Scan}
 use Rattle.lease_area.specs.declared.scanned.Scanned.{Scanned}
@@ -30,24 +27,21 @@ use Rattle.whole_file.specs.declared.replace.Stage.{Stage as ReplaceStage}
 use Rattle.task_store.specs.declared.task.Task.{Task}
 use Rattle.task_store.specs.TaskText.{text_of}
 use Rattle.task_files.specs.TaskFile.{HasTask}
-use Rattle.task_files.specs.Write.{Knows as KnowsWrite, WriteSteps, file_of, volatile_of}
+use Rattle.task_files.specs.Write.{WriteSteps, file_of, volatile_of}
 use Rattle.task_files.specs.declared.write.TaskWrite.{TaskWrite}
-use Rattle.image_making.specs.NewImage.{folder_of, text_place}
+use Rattle.image_making.specs.NewImage.{folder_of}
 use Rattle.image_making.specs.declared.making.ImageMaking.{ImageMaking}
 use Rattle.image_making.specs.declared.making.NewImage.{NewImage}
 use Rattle.image_making.proofs.Parts.{none_in_new}
 use Rattle.sd_names.specs.declared.place.Name.TheVariants as name
-use Rattle.image_creating.specs.Calls.{AskedBy, IsAt, IsOpened, IsScanBegun, IsScanned, IsWriteBegun, SeenBy, WriteTurn}
-use Rattle.image_creating.specs.Creating.{CreateTurn, stage_of, under_of}
-use Rattle.image_creating.specs.ImageTask.{HasNone, IsOpen, domain_of, image_of, master_of, new_place_of, place_of}
-use Rattle.image_creating.specs.Inner.{IsSameText, IsScanOn, OpensText, ScansOn}
-use Rattle.image_creating.specs.Knowing.{HasTasks, IsFor, IsFresh, IsNew, IsOpening, IsPlaced, IsReadSince, IsReady, IsScanning, IsTaking, IsWriting, Knows}
-use Rattle.image_creating.specs.Sectors.{HasArea, IsArea, IsLeastEmpty, IsUnnamed}
-use Rattle.image_creating.specs.Standing.{IsAbsent, IsStandingOnEach}
+use Rattle.image_creating.specs.Calls.{AskedBy, IsOpened, IsScanBegun, IsScanned, IsWriteBegun, SeenBy, WriteTurn}
+use Rattle.image_creating.specs.Creating.{CreateTurn}
+use Rattle.image_creating.specs.ImageTask.{HasNone, IsOpen, domain_of, image_of, master_of, place_of}
+use Rattle.image_creating.specs.Inner.{IsSameText, IsScanOn}
+use Rattle.image_creating.specs.Knowing.{HasTasks, IsFresh, IsNew, IsOpening, IsPlaced, IsReadSince, IsScanning, IsWriting}
+use Rattle.image_creating.specs.Standing.{IsAbsent}
 use Rattle.image_creating.specs.Steps.{After, StepsIn}
-use Rattle.image_creating.specs.declared.creating.CreateImage.{CreateImage}
-use Rattle.image_creating.specs.declared.creating.Stage.{Stage}
-use Rattle.image_creating.specs.declared.creating.Stage.TheVariants.{Asking, Scanning, Opening, Taking, Making, Ending, Releasing}
+use Rattle.image_creating.specs.declared.creating.Stage.TheVariants.{Asking, Scanning, Opening, Taking}
 use Rattle.image_creating.specs.declared.image_task.ImageTask.{ImageTask}
 use Rattle.image_creating.proofs.Apart.{apart_same, apart_text, leases_not_new, leases_not_task}
 use Rattle.image_creating.proofs.Reading.{none_empty, none_found, one_empty, one_found, read_more, read_none}
@@ -166,7 +160,7 @@ module _ (t : ImageTask) (x : NewImage) (m : ImageMaking) (s : Scan) (host fault
       (subst (λ (n : ℕ). IsReadSince n host (domain_of t) (image_of t) seen known.file) (eighth (steps_made s) on) (read_on before room seen len call.1)) call.0 by
   scan_step (Ended u refusal) before room len call on by = ended call.1
     where
-      ended : (refusal ≡ DiskFault faults) ⊎ ((refusal ≡ Rattle.shared_disk.specs.Refusal.refusal_of NoFile faults) × (d.file (leases_of (scan_domain s)) ≡ None)) → StepsIn (Scanning m s) t x host faults turn d e
+      ended : (refusal ≡ DiskFault faults) ⊎ ((refusal ≡ refusal_of NoFile faults) × (d.file (leases_of (scan_domain s)) ≡ None)) → StepsIn (Scanning m s) t x host faults turn d e
       ended (inl is) = scanned call.0 (after_ended t x host faults turn (DiskFault faults) d e (by ∙ ap (λ (r : Refusal). Ended tt r) is) refl)
       ended (inr w) = absurd (no_file known.file (d.file (leases_of (domain_of t))) (ap (λ (q : Id). d.file (leases_of q)) (sym known.domain) ∙ w.1) known.there)
 

@@ -1,11 +1,11 @@
 -- Whose unsynced writes a step of a creation leaves.
-use Rattle.std.proofs.Common.{◌≡◌, ℕ, Bool, List, Option, Some, None, Result, true, sym, subst}
+use Rattle.std.proofs.Common.{ℕ, Option, Some, None, sym, subst}
 use Rattle.sd_names.specs.UpSet.{Hosts}
 use Rattle.sd_names.specs.declared.place.Dir.TheVariants as dir
 use Rattle.sd_names.specs.declared.turn.Turn.{Turn}
 use Rattle.shared_disk.specs.Calls.{IsSame}
 use Rattle.shared_disk.specs.Content.{Content}
-use Rattle.lease_area.specs.Hold.{ByOneExchange, domain_of as lease_domain, leases_of, record_of, slot_of}
+use Rattle.lease_area.specs.Hold.{domain_of as lease_domain, leases_of, record_of, slot_of}
 use Rattle.lease_area.specs.Move.{freed}
 use Rattle.lease_area.specs.Sector.{sector_bytes}
 use Rattle.lease_area.specs.declared.sector.Sector.TheVariants.{Empty, Lease}
@@ -13,7 +13,7 @@ use Rattle.task_store.specs.TaskText.{text_of}
 use Rattle.task_store.specs.declared.task.Task.{Task}
 use Rattle.task_files.specs.Write.{CallOf as WriteCall, replacing, stage_of as write_stage}
 use Rattle.task_files.specs.declared.write.TaskWrite.{TaskWrite}
-use Rattle.layer_creating.specs.Creating.{CallIn as LayerCallIn, WritesNext, counted, made_of, place_of, tabled, length_of as layer_length_of}
+use Rattle.layer_creating.specs.Creating.{CallIn as LayerCallIn, WritesNext, made_of, place_of}
 use Rattle.layer_creating.specs.declared.backing.Backing.{Backing}
 use Rattle.layer_creating.specs.declared.creating.Creating.{Creating}
 use Rattle.layer_creating.specs.declared.creating.Made.{Made}

@@ -22,7 +22,6 @@ use Rattle.lease_area.specs.declared.scanned.Scanned.{Scanned}
 use Rattle.lease_area.specs.declared.sector.Kind.TheVariants.{Task as ForTask}
 use Rattle.lease_area.specs.declared.sector.LeaseRecord.{LeaseRecord}
 use Rattle.lease_area.specs.declared.sector.Sector.TheVariants.{Empty, Lease}
-use Rattle.task_store.specs.declared.task.Task.{Task}
 use Rattle.task_files.specs.Write.{CallOf as WriteCall, file_of, stage_of as write_stage, volatile_of}
 use Rattle.task_files.specs.declared.write.TaskWrite.{TaskWrite}
 use Rattle.whole_file.specs.declared.replace.Stage.TheVariants as replacing

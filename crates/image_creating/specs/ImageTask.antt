@@ -1,5 +1,5 @@
 -- The task under which an image is made: its texts, where they stand, and the sectors that it gives the image.
-use Rattle.std.specs.Prelude.{◌≡◌, ◌⊎◌, ℕ, Some, None}
+use Rattle.std.specs.Prelude.{◌≡◌, ℕ, Some, None}
 use Rattle.sd_names.specs.declared.id.Id.{Id}
 use Rattle.sd_names.specs.declared.place.Place.{Place}
 use Rattle.shared_disk.specs.Content.{Content}

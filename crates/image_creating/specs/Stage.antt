@@ -7,7 +7,7 @@ use Rattle.task_files.specs.Write.{file_of}
 use Rattle.task_files.specs.declared.write.TaskWrite.{TaskWrite}
 use Rattle.whole_file.specs.Replace.{length_of}
 use Rattle.image_creating.specs.declared.creating.Stage.{Stage}
-use Rattle.image_creating.specs.declared.creating.Stage.TheVariants.{Asking, Scanning, Opening, Taking, Making, Ending, Releasing}
+use Rattle.image_creating.specs.declared.creating.Stage.TheVariants.{Opening, Taking, Ending}
 use Rattle.image_creating.specs.declared.image_task.ImageTask.{ImageTask}
 
 -- the sector that is to be taken; where there is none yet, or the lease has it, the first one of images

@@ -21,7 +21,7 @@ use Rattle.image_creating.specs.Sectors.{IsFull, IsNamed}
 use Rattle.image_creating.specs.Standing.{IsCreated, IsStandingOnEach}
 use Rattle.image_creating.specs.declared.creating.CreateImage.{CreateImage}
 use Rattle.image_creating.specs.declared.creating.Stage.{Stage}
-use Rattle.image_creating.specs.declared.creating.Stage.TheVariants.{Asking, Scanning, Opening, Taking, Making, Ending, Releasing}
+use Rattle.image_creating.specs.declared.creating.Stage.TheVariants.{Asking, Scanning}
 use Rattle.image_creating.specs.declared.image_task.ImageTask.{ImageTask}
 
 -- one sector of the image's domain was exchanged, for the next one

@@ -1,11 +1,10 @@
 use Rattle.std.proofs.Common.{◌<◌, sym, subst}
 use Rattle.image_creating.specs.Stage.{slot_kept}
-use Rattle.sd_names.specs.declared.id.Id.{Id}
 use Rattle.image_creating.proofs.FileSteps.{end_step, make_step, release_step, stood_for, take_step}
 use Rattle.image_creating.proofs.TaskSteps.{ask_step, open_step, scan_step}
 use Rattle.image_creating.proofs.Turns.{ready_in}
 use Rattle.image_creating.specs.Calls.{CallIn}
-use Rattle.image_creating.specs.Creating.{stage_of, under_of}
+use Rattle.image_creating.specs.Creating.{under_of}
 use Rattle.image_creating.specs.ImageTask.{held}
 use Rattle.image_creating.specs.Steps.{StepsIn}
 use Rattle.image_creating.specs.declared.creating.Stage.{Stage}

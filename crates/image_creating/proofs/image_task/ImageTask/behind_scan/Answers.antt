@@ -1,4 +1,4 @@
-use Rattle.std.proofs.Common.{◌≡◌, ℕ, Option, Some, None, sym, ap, subst, ◌∙◌}
+use Rattle.std.proofs.Common.{ℕ, Option, None, sym, ap, subst, ◌∙◌}
 use Rattle.lease_area.specs.declared.scanned.Scanned.{Scanned}
 use Rattle.sd_names.specs.declared.turn.Turn.TheVariants.{More}
 use Rattle.lease_area.specs.declared.sector.LeaseRecord.{LeaseRecord}

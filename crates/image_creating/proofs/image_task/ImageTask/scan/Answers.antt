@@ -1,5 +1,5 @@
 use Rattle.std.proofs.Common.{refl}
-use Rattle.sd_names.specs.declared.turn.Turn.TheVariants.{More, Done, Ended}
+use Rattle.sd_names.specs.declared.turn.Turn.TheVariants.{More, Done}
 use Rattle.image_creating.proofs.image_task.ImageTask.scan.Goals as goal
 
 pub returns-in-More-clause-call : goal.returns-in-More-clause-call
