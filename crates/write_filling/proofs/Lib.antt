@@ -1,0 +1,5 @@
+pub mod Places
+pub mod Beside
+pub mod Whole
+pub mod Steps
+pub mod Counts

@@ -1,0 +1,5 @@
+pub mod Stage
+pub mod Said
+pub mod Cluster
+pub mod Left
+pub mod Filling
