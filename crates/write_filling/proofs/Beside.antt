@@ -120,7 +120,7 @@ module _ (p : Placed) (w : Layer) (l : Laying) (x : VolumeRecord) (host : ℕ) (
 
   module _ (well_now : IsWellFormedFile g) where
     -- the volume holds what it held
-    pub held_now : (k : ℕ) → own_in x (synced host g) k ≡ own_in x (synced host f) k
+    held_now : (k : ℕ) → own_in x (synced host g) k ≡ own_in x (synced host f) k
     held_now k = bytes_hold x h h (synced host f) (synced host g) k (layer_synced p w l x host f prepared.over well) (layer_synced p w l x host g over_now well_now) (λ b at. content_same.bytes b)
 
     pub prepared_now : IsPrepared p w l x host g

@@ -25,9 +25,9 @@ use Rattle.layer_writing.specs.Holding.{ComesBy, HoldSame, IsInCluster}
 use Rattle.layer_writing.proofs.Known.{comes_itself}
 use Rattle.layer_placing.proofs.Ends.{same_put}
 use Rattle.chain_model.specs.Folder.{Volumes}
-use Rattle.chain_model.specs.Own.{own, own_in}
+use Rattle.chain_model.specs.Own.{own_in}
 use Rattle.chain_laws.specs.Laid.{Laying}
-use Rattle.chain_laws.specs.Written.{FileWritten, IsHeld}
+use Rattle.chain_laws.specs.Written.{FileWritten}
 use Rattle.part_laws.specs.Steps.{StandsFor}
 use Rattle.part_laws.proofs.Held.{alike_written}
 use Rattle.volume_chain.specs.Chain.{path_in, place_in, target_of}
@@ -57,7 +57,8 @@ use Rattle.write_filling.specs.Stage.{under_way}
 use Rattle.write_filling.specs.declared.fillings.Fillings.{Fillings}
 use Rattle.write_filling.specs.declared.stage.Stage.{Stage}
 use Rattle.write_filling.specs.declared.stage.Stage.TheVariants.{Fills}
-use Rattle.write_filling.proofs.Beside.{comes_now, filled_now, held_now, prepared_now, written_now}
+use Rattle.write_filling.proofs.Beside.{comes_now, filled_now, prepared_now, written_now}
+use Rattle.write_filling.proofs.Since.{since_written}
 use Rattle.write_filling.proofs.Places.{IsGiven, given, place_even, wide, width_even}
 use Rattle.write_filling.proofs.Whole.{stands}
 
@@ -91,7 +92,7 @@ image_moved s next c w l old same image = record {
 }
 
 far_moved : (s next : Fillings) (c : Chain) (w : Layer) (l : Laying) (x : VolumeRecord) (old : Volumes) (host : ℕ) (f : File) (e : Content) (n : ℕ) → IsSameWork s next → next.done ≡ n → IsInImage s c w l old → IsPrepared s.placed w l x host f
-    → AreFilled s.placed n w l x host f → HoldsSince l x old host f → ((u : Id) → slice_get (path_in c) (s.index + 1) ≡ Some u → KnowsImage c u host old e) → IsSoFar next c w l x old host f e
+    → AreFilled s.placed n w l x host f → HoldsSince l x old f → ((u : Id) → slice_get (path_in c) (s.index + 1) ≡ Some u → KnowsImage c u host old e) → IsSoFar next c w l x old host f e
 far_moved s next c w l x old host f e n same done image prepared filled since below = record {
   image = image_moved s next c w l old same image;
   prepared = subst (λ (q : Placed). IsPrepared q w l x host f) (sym same.placed) prepared;
@@ -205,7 +206,7 @@ module _ (s : Fillings) (c : Chain) (w : Layer) (l : Laying) (x : VolumeRecord) 
       well : IsWellFormedFile now
       prepared : IsPrepared s.placed w l x host now
       filled : AreFilled s.placed s.done w l x host now
-      since : HoldsSince l x old host now
+      since : HoldsSince l x old now
       below : (u : Id) → slice_get (path_in c) (s.index + 1) ≡ Some u → KnowsImage c u host old e
 
     unchanged : IsWellFormed d → Changed f d
@@ -231,7 +232,7 @@ module _ (s : Fillings) (c : Chain) (w : Layer) (l : Laying) (x : VolumeRecord) 
       well = well_now;
       prepared = prepared_now s.placed w l x host f k.prepared well s.done place lt here did at bytes in_cluster well_now;
       filled = filled_now s.placed w l x host f k.prepared well s.done place lt here did at bytes in_cluster well_now s.done (omega arith) k.filled;
-      since = λ n less. subst (λ (o : Option (List ℕ)). IsHeld l n (own l.records old l.volume n) o) (sym (held_now s.placed w l x host f k.prepared well s.done place lt here did at bytes in_cluster well_now n)) (k.since n less);
+      since = since_written l x old f (wrote did host at bytes f) k.prepared.over.says k.since (written_now s.placed w l x host f k.prepared well s.done place lt here did at bytes in_cluster well_now);
       below = λ u next.
           (source_kept z c host old u d e (Some (wrote did host at bytes f)) (subst (λ (q : Place). IsPut d q (Some (wrote did host at bytes f)) e) same_file put)
           (source_known z c host old s.index Absent u d (k.image.path ∙ ap (λ (v : Id). Some v) (sym volume_is)) next (k.below u next))).image;

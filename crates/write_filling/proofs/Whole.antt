@@ -42,6 +42,7 @@ use Rattle.write_filling.specs.Said.{capacity_said, entry_found}
 use Rattle.write_filling.specs.Filling.{HoldsSince, IsInImage, many_of, next_place}
 use Rattle.write_filling.specs.declared.fillings.Fillings.{Fillings}
 use Rattle.write_filling.proofs.Beside.{layer_synced}
+use Rattle.write_filling.proofs.Since.{since_synced}
 use Rattle.write_filling.proofs.Places.{IsGiven, given, low_number, wide}
 
 -- a sector of the volume is held as its cluster's entry says
@@ -60,7 +61,7 @@ data_stays width n place xs (Some looked) q is at =
     let both : None ≡ Some place = sym none ∙ at in
     absurd cc
 
-module _ (s : Fillings) (c : Chain) (w : Layer) (l : Laying) (x : VolumeRecord) (old : Volumes) (host : ℕ) (f : File) (image : IsInImage s c w l old) (prepared : IsPrepared s.placed w l x host f) (since : HoldsSince l x old host f)
+module _ (s : Fillings) (c : Chain) (w : Layer) (l : Laying) (x : VolumeRecord) (old : Volumes) (host : ℕ) (f : File) (image : IsInImage s c w l old) (prepared : IsPrepared s.placed w l x host f) (since : HoldsSince l x old f)
     (well : IsWellFormedFile f) (lt : s.done < many_of s) (place : ℕ) (gets : next_place s ≡ Some place) (new : NewCluster) (is : IsNewCluster s place c new) (k : Cluster) (of : IsClusterOf new k) (sees : SeesFilled k c old l.part.bytes host f) where
   abbrev h : Header
   h = w.work.header
@@ -154,10 +155,10 @@ module _ (s : Fillings) (c : Chain) (w : Layer) (l : Laying) (x : VolumeRecord) 
       no_source q at = of.below ∙ is.below ∙ ap (λ (e : Entry). source_on (path_in c) s.index e) at
 
       go : (entry : Entry) → entry_found found ≡ entry → StandsFor l n (own_in x (synced host f) n) b
-      go Absent at = absent at (entry_is Absent at n low in_c) (since n low)
+      go Absent at = absent at (entry_is Absent at n low in_c) (since_synced l x old host f n prepared.over.writer.knows.alone since low)
       go (Zero q) at =
           let below = wanted.below out_of (subst (λ m. n < m) (sym capacity_is) low) in
-          zeros q at (entry_is (Zero q) at n low in_c) (subst (λ (o : Option Id). ReadsBelow c old o n b) (no_source q at) below) (since n low)
+          zeros q at (entry_is (Zero q) at n low in_c) (subst (λ (o : Option Id). ReadsBelow c old o n b) (no_source q at) below) (since_synced l x old host f n prepared.over.writer.knows.alone since low)
       go (Data q) at = absurd (data_stays (width_of (span_of s.placed.plan)) (tables_of s.placed.plan + places_below s.placed.plan s.done) place s.placed.clusters.numbers.items found q at gets)
 
   pub stands : (n : ℕ) → cluster_of h n ≡ c0 → n < sectors_of x → StandsFor l n (own_in x (synced host f) n) (sector_in f.size (seen host f) (sector_at h place n))

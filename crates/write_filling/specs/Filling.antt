@@ -4,8 +4,9 @@ use Rattle.sd_names.specs.Turn.{MatchTurn}
 use Rattle.sd_names.specs.declared.id.Id.{Id}
 use Rattle.sd_names.specs.declared.refusal.Refusal.TheVariants.{DiskFault}
 use Rattle.sd_names.specs.declared.turn.Turn.{Turn}
-use Rattle.shared_disk.specs.Calls.{IsPut, synced}
+use Rattle.shared_disk.specs.Calls.{IsPut}
 use Rattle.shared_disk.specs.Content.{Content, File}
+use Rattle.shared_disk.specs.Crash.{OnEach}
 use Rattle.volume_meta.specs.declared.record.VolumeRecord.{VolumeRecord}
 use Rattle.qcow_layer.specs.Opening.{capacity_kept, header_kept, place_kept}
 use Rattle.qcow_layer.specs.declared.layer.Layer.{Layer}
@@ -77,16 +78,16 @@ pub record IsInImage (s : Fillings) (c : Chain) (w : Layer) (l : Laying) (old : 
   pub at : start_of s ≡ 512 * l.part.at
   pub within : at_of (span_of (plan_of (placed_of s))) + length_of (span_of (plan_of (placed_of s))) ≤ capacity_kept w
 
--- Once the host has synced the file, the volume holds each sector as when the write began, or more of the part.
-abbrev pub HoldsSince : Laying → VolumeRecord → Volumes → ℕ → File → Type 0
-HoldsSince l x old host f = (k : ℕ) → k < sectors_of x → IsHeld l k (own l.records old l.volume k) (own_in x (synced host f) k)
+-- On each outcome of its file the volume holds each sector as when the write began, or more of the part.
+abbrev pub HoldsSince : Laying → VolumeRecord → Volumes → File → Type 0
+HoldsSince l x old f = OnEach f (λ o. (k : ℕ) → k < sectors_of x → IsHeld l k (own l.records old l.volume k) (own_in x o k))
 
 -- The clusters behind are written whole, and the volumes below can be read.
 pub record IsSoFar (s : Fillings) (c : Chain) (w : Layer) (l : Laying) (x : VolumeRecord) (old : Volumes) (host : ℕ) (f : File) (d : Content) : Type 0 where
   pub image : IsInImage s c w l old
   pub prepared : IsPrepared (placed_of s) w l x host f
   pub filled : AreFilled (placed_of s) (done_of s) w l x host f
-  pub since : HoldsSince l x old host f
+  pub since : HoldsSince l x old f
   pub below : (u : Id) → slice_get (path_in c) (index_of s + 1) ≡ Some u → KnowsImage c u host old d
 
 -- the next cluster is written into its place, so far

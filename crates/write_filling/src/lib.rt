@@ -2,7 +2,9 @@
 #![tactic(auto)]
 
 mod fillings;
+mod laws;
 mod said;
 mod stage;
 
 pub use fillings::Fillings;
+pub use laws::volumes_hold_since_the_begin;
