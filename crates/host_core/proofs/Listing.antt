@@ -1,5 +1,5 @@
 -- The step of `tasks`: the manager's list, and the file of a task in doubt, give the pool's tasks.
-use Rattle.std.proofs.Common.{◌≡◌, ◌≢◌, ◌⊎◌, ℕ, ◌<◌, List, [], Option, Some, None, Result, Ok, Err, length, refl, sym, ap, subst, ◌∙◌, inl, inr, arith}
+use Rattle.std.proofs.Common.{◌≡◌, ◌≢◌, ◌⊎◌, ℕ, List, [], Option, Some, None, Result, Ok, Err, refl, sym, ap, subst, ◌∙◌, inl, inr}
 use Rattle.std.specs.Prelude.{Contains, IfOk}
 use Rattle.sd_names.specs.UpSet.{Hosts}
 use Rattle.sd_names.specs.declared.id.Id.{Id}
@@ -8,14 +8,11 @@ use Rattle.sd_names.specs.declared.refusal.Refusal.TheVariants.{DiskFault, OutOf
 use Rattle.sd_names.specs.declared.task_state.TaskState.{TaskState}
 use Rattle.sd_names.specs.declared.turn.NoMemory.{NoMemory}
 use Rattle.sd_names.specs.declared.verb.Payload.TheVariants as payload
-use Rattle.shared_disk.specs.Content.{Content, File, without}
+use Rattle.shared_disk.specs.Content.{Content, File}
 use Rattle.task_store.specs.declared.task.Task.{Task}
-use Rattle.task_store.specs.ReadTask.{task_of}
-use Rattle.task_files.specs.Read.{Finds, ReadsTask, SeesNone, SeesTask}
+use Rattle.task_files.specs.Read.{Finds, ReadsTask}
 use Rattle.task_files.specs.TaskFile.{task_place}
-use Rattle.whole_file.specs.Text.{longest, text_of}
 use Rattle.chain_model.proofs.Settled.{is_one}
-use Rattle.chain_model.proofs.Texts.{text_seen}
 use Rattle.pool_model.specs.Knows.{KnowsLists}
 use Rattle.pool_model.specs.Pool.{Pool}
 use Rattle.pool_model.specs.Rules.{here}
@@ -34,6 +31,7 @@ use Rattle.host_core.specs.Steps.{HostSteps, Stepped, answer_of}
 use Rattle.host_core.specs.declared.progress.Progress.{Progress}
 use Rattle.host_core.specs.declared.work.Work.{Work}
 use Rattle.host_core.specs.declared.work.Work.TheVariants as work
+use Rattle.task_listing.proofs.Reading.{found_task, is_readable, no_file_no_task}
 use Rattle.host_core.proofs.Listed.{with_all, with_each, with_it, with_rises}
 
 nothing_open : (o : Opened) → ◌≡◌ {A = Option Opened} None (Some o) → ⊥
@@ -182,44 +180,6 @@ module _ (up : Hosts) (id moment steps : ℕ) (bytes : List ℕ) (l : Leader) (k
       place_at : TaskAt d l.master t (p.task t)
       place_at = stands.tasks.each l.master t knows.machine.role.master
 
-      found_task : (x : Task) → (f : File) × (d.file (task_place l.master t) ≡ Some f) × (without id f.loose ≡ [] → SeesTask id t f x)
-          → (o : Option Task) → TaskAt d l.master t o → o ≡ Some x
-      found_task x (f, is, sees) None none = absurd (none_file (d.file (task_place l.master t)) f none is)
-      found_task x (f, is, sees) (Some y) at = ap (λ (z : Task). Some z) (sym same)
-        where
-          file_is : at.stored.file ≡ f
-          file_is = one_file (d.file (task_place l.master t)) at.stored.file f at.stored.there is
-
-          quiet : without id f.loose ≡ []
-          quiet = ap (λ (g : File). without id g.loose) (sym file_is) ∙ ap (λ ls. without id ls) at.stored.settled.loose
-
-          text : text_of id f ≡ at.text
-          text = ap (λ (g : File). text_of id g) (sym file_is) ∙ text_seen id at.stored.file at.stored.settled ∙ at.stored.stored
-
-          same : x ≡ y
-          same = one_state (task_of t at.text) x y (ap (λ (xs : List ℕ). task_of t xs) (sym text) ∙ (sees quiet).task) at.reads
-
-      no_task : (o : Option Task) → d.file (task_place l.master t) ≡ None → TaskAt d l.master t o → o ≡ None
-      no_task None none at = refl
-      no_task (Some y) none at = absurd (none_file (d.file (task_place l.master t)) at.stored.file none at.stored.there)
-
-      readable : (f : File) → d.file (task_place l.master t) ≡ Some f → (without id f.loose ≡ [] → SeesNone id t f) → (o : Option Task) → TaskAt d l.master t o → ⊥
-      readable f is sees None none = none_file (d.file (task_place l.master t)) f none is
-      readable f is sees (Some y) at = go (sees quiet)
-        where
-          file_is : at.stored.file ≡ f
-          file_is = one_file (d.file (task_place l.master t)) at.stored.file f at.stored.there is
-
-          quiet : without id f.loose ≡ []
-          quiet = ap (λ (g : File). without id g.loose) (sym file_is) ∙ ap (λ ls. without id ls) at.stored.settled.loose
-
-          text : text_of id f ≡ at.text
-          text = ap (λ (g : File). text_of id g) (sym file_is) ∙ text_seen id at.stored.file at.stored.settled ∙ at.stored.stored
-
-          go : (longest < length (text_of id f)) ⊎ (task_of t (text_of id f) ≡ None) → ⊥
-          go (inl long) = omega (arith, long, ap (λ (xs : List ℕ). length xs) text, at.short)
-          go (inr none) = some_none (task_of t at.text) y (ap (λ (xs : List ℕ). task_of t xs) (sym text) ∙ none) at.reads
-
 -- ---- a step without a doubt
 
 -- what a list answers, and want of memory
@@ -285,13 +245,13 @@ module _ (up : Hosts) (x : Memory) (l : Leader) (d : Content) (works : x.work �
       → (r : Result (Option Task) Refusal) → Finds r x.id (task_place l.master t) t faults d → (answer : Answer) → AnswersRead l t r answer
       → Stepped up k was d p answer is_now d
   by_reading k p stands knows faults t begun (Ok None) none answer said =
-      listed k p stands knows t begun None (no_task up x.id x.moment x.steps x.bytes l k p d stands knows t (p.task t) none
+      listed k p stands knows t begun None (no_file_no_task d l.master t x.id (p.task t) none
       (place_at up x.id x.moment x.steps x.bytes l k p d stands knows t)) answer said
   by_reading k p stands knows faults t begun (Ok (Some y)) found answer said =
-      listed k p stands knows t begun (Some y) (found_task up x.id x.moment x.steps x.bytes l k p d stands knows t y found (p.task t)
+      listed k p stands knows t begun (Some y) (found_task d l.master t x.id y found (p.task t)
       (place_at up x.id x.moment x.steps x.bytes l k p d stands knows t)) answer said
   by_reading k p stands knows faults t begun (Err (TaskCorrupt u)) (f, is, sees) answer said =
-      absurd (readable up x.id x.moment x.steps x.bytes l k p d stands knows t f is sees (p.task t)
+      absurd (is_readable d l.master t x.id f is sees (p.task t)
       (place_at up x.id x.moment x.steps x.bytes l k p d stands knows t))
   by_reading k p stands knows faults t begun (Err OutOfMemory) found answer said =
       subst (λ (a : Answer). Stepped up k was d p a is_now d) (sym said) (lacking_step up x.id x.moment x.steps x.bytes l k p d stands knows)
