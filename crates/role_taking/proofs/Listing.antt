@@ -16,6 +16,7 @@ use Rattle.lease_area.specs.declared.sector.Sector.TheVariants.{Lease}
 use Rattle.spm_role.specs.List.{IsListed, IsSameManager, ListsPool}
 use Rattle.spm_role.specs.Spm.{domains_of, master_of}
 use Rattle.spm_role.specs.declared.spm.Spm.{Spm}
+use Rattle.pool_model.specs.Kept.{StillKept}
 use Rattle.pool_model.specs.Marks.{recovery}
 use Rattle.pool_model.specs.Pool.{Pool}
 use Rattle.pool_model.specs.Rules.{here, text_of}
@@ -60,7 +61,7 @@ led_still h spm next p same knows = record {
   owner = ap (λ (l : Held). (record_of l).owner) same.lease ∙ knows.owner;
 }
 
-module _ (h : ℕ) (up : Hosts) (k : Kept) (steps : ℕ) (x : HostState) (d e : Content) (p : Pool) (stands : Stands up d p) (spm next : Spm) (a : Asked) (faults : ℕ)
+module _ (h : ℕ) (up : Hosts) (k l : Kept) (still : StillKept k l) (steps : ℕ) (x : HostState) (d e : Content) (p : Pool) (stands : Stands up d p) (spm next : Spm) (a : Asked) (faults : ℕ)
     (asked : master_of spm ≡ a.sd) (knows : KnowsLed h spm p) (same_spm : IsSameManager spm next) where
   master : p.master ≡ Some a.sd
   master = knows.master ∙ ap (λ (i : Id). Some i) asked
@@ -78,23 +79,23 @@ module _ (h : ℕ) (up : Hosts) (k : Kept) (steps : ℕ) (x : HostState) (d e : 
 
   by_answer : (found : Result DomainRecord Refusal) (result : Result (Unit {0}) Refusal) → Reads faults (text_of p a.sd) found → IsSame d e
       → IsListed found result (domains_of spm) (domains_of next) → OnOk result (is_rising (domains_of next) ≡ true)
-      → Stepped h up a k steps x recovery (turn_by result next) d p e
+      → Stepped h up a k l steps x recovery (turn_by result next) d p e
   by_answer (Ok r) (Ok u) reads same (is, listed_is) rising =
       let read = master_reads up d p a.sd stands master in
       let told : read.0 ≡ r = same_record read.0 r (sym read.1 ∙ read_ok faults (text_of p a.sd) r reads) in
-      same_step h up a k steps x d e p stands recovery (Done next) (on_turn h up a k steps x p recovery recovery p here)
+      same_step h up a k l still steps x d e p stands recovery (Done next) (on_turn h up a k steps x p recovery recovery p l still here)
       (led_still h spm next p same_spm knows, listed r (read.2 ∙ ap (λ (y : DomainRecord). Some y) told) (domains_of next) listed_is rising) same
   by_answer (Ok r) (Err f) reads same (is, listed_is) rising = absurd (ok_err f (sym is))
   by_answer (Err f) (Ok u) reads same (is, listed_is) rising = absurd (err_ok f is)
   by_answer (Err f) (Err g) reads same (is, listed_is) rising =
       let read = master_reads up d p a.sd stands master in
-      subst (λ (r : Refusal). Stepped h up a k steps x recovery (Ended tt r) d p e) (sym (same_err g f is))
-      (listed_ends h up a k steps x d e p stands recovery faults read.0 f read.1 reads same)
+      subst (λ (r : Refusal). Stepped h up a k l steps x recovery (Ended tt r) d p e) (sym (same_err g f is))
+      (listed_ends h up a k l still steps x d e p stands recovery faults read.0 f read.1 reads same)
 
 pub list_steps : (h : ℕ) (up : Hosts) (spm next : Spm) (result : Result (Unit {0}) Refusal) (faults : ℕ) (d e : Content) → IsSameManager spm next
     → OnOk result (is_rising (domains_of next) ≡ true) → ListsPool h (master_of spm) faults result (domains_of spm) (domains_of next) d e
     → TakesRole h up (Taken spm) (turn_by result next) d e
-list_steps h up spm next result faults d e same rising (found, reads, listed) a k steps x p asked stands knows =
+list_steps h up spm next result faults d e same rising (found, reads, listed) a k l steps x p still asked stands knows =
     let told = text_reads up d e p (master_of spm) h faults found stands reads in
-    by_answer h up k steps x d e p stands spm next a faults asked.master knows same found result
+    by_answer h up k l still steps x d e p stands spm next a faults asked.master knows same found result
     (subst (λ (i : Id). Reads faults (text_of p i) found) asked.master told.1) told.0 listed rising

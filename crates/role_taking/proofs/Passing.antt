@@ -16,6 +16,7 @@ use Rattle.lease_area.specs.declared.sector.Kind.TheVariants.{Guest}
 use Rattle.lease_area.specs.declared.sector.Sector.{Sector}
 use Rattle.spm_role.specs.Look.{look_answer}
 use Rattle.spm_role.specs.Master.{as_master}
+use Rattle.pool_model.specs.Kept.{StillKept}
 use Rattle.pool_model.specs.Laws.{with_role}
 use Rattle.pool_model.specs.Marks as mark
 use Rattle.pool_model.specs.Marks.{Check, Mark, check, has_text, is_master, known_version, owner_is, readable, recovery, unled}
@@ -106,17 +107,17 @@ module _ (h : ℕ) (up : Hosts) (a : Asked) (k : Kept) (steps : ℕ) (x : HostSt
   -- ---- turns
 
   -- more is to do
-  pub on_turn : (ms ns : List Mark) (q : Pool) → Passing (by ms) ms 0 p ns 0 q
-      → HostTurns h up (runs x (Some (run ms))) p more (runs x (Some (running_with a k (next_steps steps) ns))) q
-  on_turn ms ns q passing = (
+  pub on_turn : (ms ns : List Mark) (q : Pool) (l : Kept) → StillKept k l → Passing (by ms) ms 0 p ns 0 q
+      → HostTurns h up (runs x (Some (run ms))) p more (runs x (Some (running_with a l (next_steps steps) ns))) q
+  on_turn ms ns q l still passing = (
     run ms,
     refl,
     record {
       marks = ns;
       tally = 0;
-      kept = k;
+      kept = l;
       passing = passing;
-      keeps = record { named = refl; foreign = refl; texts = refl };
+      keeps = still;
       running = refl;
       idle = record { role_is = refl; opened = λ s. refl };
     },

@@ -26,6 +26,7 @@ use Rattle.spm_role.specs.declared.start.SpmStart.{SpmStart}
 use Rattle.spm_role.specs.declared.start.Stage.{Stage}
 use Rattle.spm_role.specs.declared.start.Stage.TheVariants.{Begun, Known, Listed, Seen}
 use Rattle.pool_model.specs.Laws.{with_role}
+use Rattle.pool_model.specs.Kept.{StillKept}
 use Rattle.pool_model.specs.Marks.{Mark, recovery}
 use Rattle.pool_model.specs.Pool.{Pool}
 use Rattle.pool_model.specs.Rules.{Passing, here, text_of}
@@ -82,12 +83,12 @@ taken_err : (h : ℕ) (l : Result Sector Refusal) (e : Refusal) → taken_as h l
 taken_err h (Ok z) e is = absurd (ok_err (taken_by h Guest z) e is)
 taken_err h (Err f) e is = ap (λ (g : Refusal). Err g) (same_err f e is)
 
-module _ (h : ℕ) (up : Hosts) (a : Asked) (k : Kept) (steps : ℕ) (x : HostState) (d e : Content) (p : Pool) (stands : Stands up d p) where
+module _ (h : ℕ) (up : Hosts) (a : Asked) (k l : Kept) (still : StillKept k l) (steps : ℕ) (x : HostState) (d e : Content) (p : Pool) (stands : Stands up d p) where
   -- nothing has changed
   pub same_step : (ms : List Mark) (turn : Turn RoleTaking Spm (Unit {0}))
-      → HostTurns h up (runs x (Some (running_with a k steps ms))) p (answer_of turn) (runs x (running_after a k steps turn)) p → KnowsAfter h turn p → IsSame d e
-      → Stepped h up a k steps x ms turn d p e
-  same_step ms turn turns knows same = subst (λ (c : Content). Stepped h up a k steps x ms turn d p c) (sym same) (record {
+      → HostTurns h up (runs x (Some (running_with a k steps ms))) p (answer_of turn) (runs x (running_after a l steps turn)) p → KnowsAfter h turn p → IsSame d e
+      → Stepped h up a k l steps x ms turn d p e
+  same_step ms turn turns knows same = subst (λ (c : Content). Stepped h up a k l steps x ms turn d p c) (sym same) (record {
     pool = p;
     turns = turns;
     stands = stands;
@@ -100,40 +101,40 @@ module _ (h : ℕ) (up : Hosts) (a : Asked) (k : Kept) (steps : ℕ) (x : HostSt
 
   -- the start goes on in this stage
   next_step : (ms : List Mark) (stage : Stage) (next : SpmStart) → stage_of next ≡ stage → domain_of next ≡ a.sd → Passing (by h up a k steps x p ms) ms 0 p (stage_marks a stage) 0 p
-      → KnowsStage stage a.sd p → IsSame d e → Stepped h up a k steps x ms (More (Starting next)) d p e
+      → KnowsStage stage a.sd p → IsSame d e → Stepped h up a k l steps x ms (More (Starting next)) d p e
   next_step ms stage next now domain passing knows same = same_step ms (More (Starting next))
-      (subst (λ (s : Stage). HostTurns h up (runs x (Some (running_with a k steps ms))) p more (runs x (Some (running_with a k (next_steps steps) (stage_marks a s)))) p)
-      (sym now) (on_turn h up a k steps x p ms (stage_marks a stage) p passing))
+      (subst (λ (s : Stage). HostTurns h up (runs x (Some (running_with a k steps ms))) p more (runs x (Some (running_with a l (next_steps steps) (stage_marks a s)))) p)
+      (sym now) (on_turn h up a k steps x p ms (stage_marks a stage) p l still passing))
       (subst (λ (s : Stage). KnowsStage s (domain_of next) p) (sym now) (subst (λ (i : Id). KnowsStage stage i p) (sym domain) knows)) same
 
   -- it ends by a refusal, and nothing has changed
   pub ended_step : (ms : List Mark) (refusal : Refusal) → HostTurns h up (runs x (Some (run h up a k steps x p ms))) p (refused refusal) (runs x None) p → IsSame d e
-      → Stepped h up a k steps x ms (Ended tt refusal) d p e
+      → Stepped h up a k l steps x ms (Ended tt refusal) d p e
   ended_step ms refusal turns same = same_step ms (Ended tt refusal) turns tt same
 
-  pub lacking_step : (ms : List Mark) (refusal : Refusal) → refusal ≡ OutOfMemory → IsSame d e → Stepped h up a k steps x ms (Ended tt refusal) d p e
-  lacking_step ms refusal is same = subst (λ (r : Refusal). Stepped h up a k steps x ms (Ended tt r) d p e) (sym is)
+  pub lacking_step : (ms : List Mark) (refusal : Refusal) → refusal ≡ OutOfMemory → IsSame d e → Stepped h up a k l steps x ms (Ended tt refusal) d p e
+  lacking_step ms refusal is same = subst (λ (r : Refusal). Stepped h up a k l steps x ms (Ended tt r) d p e) (sym is)
       (ended_step ms OutOfMemory (lacking_turn h up a k steps x p ms) same)
 
-  pub faulty_step : (ms : List Mark) (faults : ℕ) (refusal : Refusal) → refusal ≡ DiskFault faults → IsSame d e → Stepped h up a k steps x ms (Ended tt refusal) d p e
-  faulty_step ms faults refusal is same = subst (λ (r : Refusal). Stepped h up a k steps x ms (Ended tt r) d p e) (sym is)
+  pub faulty_step : (ms : List Mark) (faults : ℕ) (refusal : Refusal) → refusal ≡ DiskFault faults → IsSame d e → Stepped h up a k l steps x ms (Ended tt refusal) d p e
+  faulty_step ms faults refusal is same = subst (λ (r : Refusal). Stepped h up a k l steps x ms (Ended tt r) d p e) (sym is)
       (ended_step ms (DiskFault faults) (faulty_turn h up a k steps x p faults ms ms p here) same)
 
   -- a text that reads as a master's is answered so, but for want of memory and a fault
   pub listed_ends : (ms : List Mark) (faults : ℕ) (r : DomainRecord) (refusal : Refusal) → master_read (text_of p a.sd) ≡ Ok r → Reads faults (text_of p a.sd) (Err refusal) → IsSame d e
-      → Stepped h up a k steps x ms (Ended tt refusal) d p e
+      → Stepped h up a k l steps x ms (Ended tt refusal) d p e
   listed_ends ms faults r refusal reads (inl is) same = absurd (err_ok r refusal (is ∙ reads))
   listed_ends ms faults r refusal reads (inr (inl lacks)) same = lacking_step ms refusal (same_err refusal OutOfMemory lacks) same
   listed_ends ms faults r refusal reads (inr (inr failed)) same = faulty_step ms faults refusal (same_err refusal (DiskFault faults) failed) same
 
-module _ (h : ℕ) (up : Hosts) (k : Kept) (steps : ℕ) (x : HostState) (d e : Content) (p : Pool) (stands : Stands up d p) (s : SpmStart) (faults : ℕ) where
+module _ (h : ℕ) (up : Hosts) (k l : Kept) (still : StillKept k l) (steps : ℕ) (x : HostState) (d e : Content) (p : Pool) (stands : Stands up d p) (s : SpmStart) (faults : ℕ) where
   abbrev a : Asked
   a = asked_of s
 
   abbrev Went : List Mark → Turn SpmStart Spm (Unit {0}) → Type 0
-  Went ms turn = Stepped h up a k steps x ms (turn_of turn) d p e
+  Went ms turn = Stepped h up a k l steps x ms (turn_of turn) d p e
 
-  ended : (ms : List Mark) (turn : Turn SpmStart Spm (Unit {0})) (refusal : Refusal) → EndsBy turn refusal → Stepped h up a k steps x ms (Ended tt refusal) d p e → Went ms turn
+  ended : (ms : List Mark) (turn : Turn SpmStart Spm (Unit {0})) (refusal : Refusal) → EndsBy turn refusal → Stepped h up a k l steps x ms (Ended tt refusal) d p e → Went ms turn
   ended ms turn refusal is step = subst (λ (t : Turn SpmStart Spm (Unit {0})). Went ms t) (sym is) step
 
   -- the text is read
@@ -141,17 +142,17 @@ module _ (h : ℕ) (up : Hosts) (k : Kept) (steps : ℕ) (x : HostState) (d e : 
       → MatchResult read (λ _. GoesOn (IsAt s Known) turn) (EndsBy turn) → IsSame d e → Went (all_marks a) turn
   begun (More next) (Ok r) reads at same =
       let told = text_told h up a k steps x p (text_of p a.sd) r refl (read_ok faults (text_of p a.sd) r reads) in
-      next_step h up a k steps x d e p stands (all_marks a) Known next at.now_in at.same.domain
+      next_step h up a k l still steps x d e p stands (all_marks a) Known next at.now_in at.same.domain
       (text_passes h up a k steps x p r told.0 told.1 told.2) (master_by_text up d p a.sd r stands told.0 told.2) same
   begun (Done spm) (Ok r) reads at same = absurd at
   begun (Ended b f) (Ok r) reads at same = absurd at
   begun turn (Err refusal) reads ends same = ended (all_marks a) turn refusal ends (by_answer reads)
     where
-      by_answer : Reads faults (text_of p a.sd) (Err refusal) → Stepped h up a k steps x (all_marks a) (Ended tt refusal) d p e
-      by_answer (inl is) = ended_step h up a k steps x d e p stands (all_marks a) refusal
+      by_answer : Reads faults (text_of p a.sd) (Err refusal) → Stepped h up a k l steps x (all_marks a) (Ended tt refusal) d p e
+      by_answer (inl is) = ended_step h up a k l still steps x d e p stands (all_marks a) refusal
           (text_refused h up a k steps x p (text_of p a.sd) refusal refl (sym is)) same
-      by_answer (inr (inl lacks)) = lacking_step h up a k steps x d e p stands (all_marks a) refusal (same_err refusal OutOfMemory lacks) same
-      by_answer (inr (inr failed)) = faulty_step h up a k steps x d e p stands (all_marks a) faults refusal (same_err refusal (DiskFault faults) failed) same
+      by_answer (inr (inl lacks)) = lacking_step h up a k l still steps x d e p stands (all_marks a) refusal (same_err refusal OutOfMemory lacks) same
+      by_answer (inr (inr failed)) = faulty_step h up a k l still steps x d e p stands (all_marks a) faults refusal (same_err refusal (DiskFault faults) failed) same
 
   abbrev first : Sector
   first = p.sector a.sd 0
@@ -163,26 +164,26 @@ module _ (h : ℕ) (up : Hosts) (k : Kept) (steps : ℕ) (x : HostState) (d e : 
   known (More next) (Ok z) master (inl is) at same =
       let told = sector_told h up a k steps x p z (sym is) in
       let leases = leases_here up d p a.sd stands master in
-      next_step h up a k steps x d e p stands (role_marks a) (Seen z) next at.now_in at.same.domain here
+      next_step h up a k l still steps x d e p stands (role_marks a) (Seen z) next at.now_in at.same.domain here
       (record { master = master; fits = subst (λ (w : Sector). IsSector w) told.3 (leases.fits 0); role = λ r is. leases.role r (told.3 ∙ is); comes = inl told.3 }) same
   known (More next) (Ok z) master (inr failed) at same = absurd (ok_err z (DiskFault faults) failed)
   known (Done spm) (Ok z) master is at same = absurd at
   known (Ended b f) (Ok z) master is at same = absurd at
   known turn (Err refusal) master (inl is) ends same = ended (role_marks a) turn refusal ends
-      (ended_step h up a k steps x d e p stands (role_marks a) refusal (sector_refused h up a k steps x p refusal (sym is)) same)
+      (ended_step h up a k l still steps x d e p stands (role_marks a) refusal (sector_refused h up a k steps x p refusal (sym is)) same)
   known turn (Err refusal) master (inr failed) ends same = ended (role_marks a) turn refusal ends
-      (faulty_step h up a k steps x d e p stands (role_marks a) faults refusal (same_err refusal (DiskFault faults) failed) same)
+      (faulty_step h up a k l still steps x d e p stands (role_marks a) faults refusal (same_err refusal (DiskFault faults) failed) same)
 
   -- the text is read again
   seen : (z : Sector) (turn : Turn SpmStart Spm (Unit {0})) (read : Result DomainRecord Refusal) → KnowsSector z a.sd p → Reads faults (text_of p a.sd) read
       → MatchResult read (λ r. GoesOn (HasRead s z r) turn) (EndsBy turn) → IsSame d e → Went (role_marks a) turn
   seen z (More next) (Ok r) knows reads at same =
-      next_step h up a k steps x d e p stands (role_marks a) (Listed z r.pool) next at.now_in at.same.domain here knows same
+      next_step h up a k l still steps x d e p stands (role_marks a) (Listed z r.pool) next at.now_in at.same.domain here knows same
   seen z (Done spm) (Ok r) knows reads at same = absurd at
   seen z (Ended b f) (Ok r) knows reads at same = absurd at
   seen z turn (Err refusal) knows reads ends same = ended (role_marks a) turn refusal ends
       (let master = master_reads up d p a.sd stands knows.master in
-      listed_ends h up a k steps x d e p stands (role_marks a) faults master.0 refusal master.1 reads same)
+      listed_ends h up a k l still steps x d e p stands (role_marks a) faults master.0 refusal master.1 reads same)
 
   -- sector 0 is exchanged
   module _ (host : (1 ≤ h) × (h ≤ 250)) (nobody : is_up up 0 ≡ false) (master : p.master ≡ Some a.sd) where
@@ -194,8 +195,8 @@ module _ (h : ℕ) (up : Hosts) (k : Kept) (steps : ℕ) (x : HostState) (d e : 
 
     -- the exchange is done
     moved_step : (turn : Turn RoleTaking Spm (Unit {0})) (z : Sector) → looks ≡ Ok z → IsMoved d a.sd 0 (Lease new) e
-        → HostTurns h up (runs x (Some (running_with a k steps (role_marks a)))) p (answer_of turn) (runs x (running_after a k steps turn)) (with_role p a.sd new)
-        → KnowsAfter h turn (with_role p a.sd new) → Stepped h up a k steps x (role_marks a) turn d p e
+        → HostTurns h up (runs x (Some (running_with a k steps (role_marks a)))) p (answer_of turn) (runs x (running_after a l steps turn)) (with_role p a.sd new)
+        → KnowsAfter h turn (with_role p a.sd new) → Stepped h up a k l steps x (role_marks a) turn d p e
     moved_step turn z is moved turns knows =
         let told = sector_told h up a k steps x p z is in
         let to = moved_to h up a d e p stands host nobody master told.0 moved in
@@ -225,16 +226,16 @@ module _ (h : ℕ) (up : Hosts) (k : Kept) (steps : ℕ) (x : HostState) (d e : 
         let found = taken_ok h looks r ans in
         let same = new_is found.0 r found.1 found.2 in
         moved_step (More (Taken spm)) found.0 found.1 (subst (λ (y : LeaseRecord). IsMoved d a.sd 0 (Lease y) e) (sym same) moved)
-        (on_turn h up a k steps x p (role_marks a) recovery (with_role p a.sd new) (passes found.0 found.1))
+        (on_turn h up a k steps x p (role_marks a) recovery (with_role p a.sd new) l still (passes found.0 found.1))
         (record { master = master ∙ ap (λ (i : Id). Some i) (sym manages.master); lease = ap (λ (i : Id). (with_role p a.sd new).sector i 0) manages.master ∙ led_sector p a.sd new ∙ ap (λ (y : LeaseRecord). Lease y) (same ∙ sym is); owner = manages.host })
     taken turn (Err refusal) manages (inl (ans, same)) ends = ended (role_marks a) turn refusal ends
-        (ended_step h up a k steps x d e p stands (role_marks a) refusal (sector_refused h up a k steps x p refusal (taken_err h looks refusal ans)) same)
+        (ended_step h up a k l still steps x d e p stands (role_marks a) refusal (sector_refused h up a k steps x p refusal (taken_err h looks refusal ans)) same)
     taken turn (Err refusal) manages (inr (fault, inl same)) ends = ended (role_marks a) turn refusal ends
-        (faulty_step h up a k steps x d e p stands (role_marks a) faults refusal fault same)
+        (faulty_step h up a k l still steps x d e p stands (role_marks a) faults refusal fault same)
     taken turn (Err refusal) manages (inr (fault, inr (r, ans, moved))) ends =
         let found = taken_ok h looks r ans in
         let same = new_is found.0 r found.1 found.2 in
-        ended (role_marks a) turn refusal ends (subst (λ (f : Refusal). Stepped h up a k steps x (role_marks a) (Ended tt f) d p e) (sym fault)
+        ended (role_marks a) turn refusal ends (subst (λ (f : Refusal). Stepped h up a k l steps x (role_marks a) (Ended tt f) d p e) (sym fault)
         (moved_step (Ended tt (DiskFault faults)) found.0 found.1 (subst (λ (y : LeaseRecord). IsMoved d a.sd 0 (Lease y) e) (sym same) moved)
         (faulty_turn h up a k steps x p faults (role_marks a) recovery (with_role p a.sd new) (passes found.0 found.1)) tt))
 
@@ -267,6 +268,6 @@ same_asked s b is =
 pub start_steps : (h : ℕ) (up : Hosts) (s : SpmStart) (turn : Turn SpmStart Spm (Unit {0})) (faults : ℕ) (d e : Content) → (1 ≤ h) × (h ≤ 250) → is_up up 0 ≡ false
     → owner_kept (stage_of s) (prev_of s) ≡ prev_of s → version_kept (stage_of s) (lver_of s) ≡ lver_of s → EndsWith (IsManager s h) turn
     → StartsBy (stage_of s) s h up faults turn d e → TakesRole h up (Starting s) (turn_of turn) d e
-start_steps h up s turn faults d e host nobody owner version manages starts wanted k steps x p asked stands knows =
-    subst (λ (b : Asked). Stepped h up b k steps x (stage_marks b (stage_of s)) (turn_of turn) d p e) (same_asked s wanted asked)
-    (by_stage h up k steps x d e p stands s faults (stage_of s) turn host nobody owner version manages knows starts)
+start_steps h up s turn faults d e host nobody owner version manages starts wanted k l steps x p still asked stands knows =
+    subst (λ (b : Asked). Stepped h up b k l steps x (stage_marks b (stage_of s)) (turn_of turn) d p e) (same_asked s wanted asked)
+    (by_stage h up k l still steps x d e p stands s faults (stage_of s) turn host nobody owner version manages knows starts)
