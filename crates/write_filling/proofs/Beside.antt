@@ -26,7 +26,6 @@ use Rattle.own_laws.specs.Sectors.{IsLayerOf, offset_of, sector_at}
 use Rattle.own_laws.proofs.Bytes.{bytes_hold}
 use Rattle.chain_laws.specs.Laid.{Laying}
 use Rattle.chain_laws.specs.Written.{FileWritten}
-use Rattle.part_laws.specs.Steps.{StandsFor}
 use Rattle.part_laws.proofs.Files.{known_layers}
 use Rattle.part_laws.proofs.Held.{same_written}
 use Rattle.cluster_filling.proofs.Steps.{seen_beside}
@@ -34,7 +33,7 @@ use Rattle.write_planning.specs.Plan.{span_of}
 use Rattle.write_planning.specs.Span.{count_of}
 use Rattle.place_writing.specs.Places.{IsOver}
 use Rattle.place_writing.proofs.Written.{found_same}
-use Rattle.write_preparing.specs.Filled.{AreFilled}
+use Rattle.write_preparing.specs.Filled.{AreFilled, StandsWhole}
 use Rattle.write_preparing.specs.Preparing.{IsPrepared}
 use Rattle.write_preparing.specs.declared.placed.Placed.{Placed}
 use Rattle.write_filling.proofs.Places.{IsGiven, IsKeptAt, IsTaken, given, place_even, places_apart, width_even}
@@ -155,5 +154,5 @@ module _ (p : Placed) (w : Layer) (l : Laying) (x : VolumeRecord) (host : ℕ) (
         let other = given p w l x host f prepared j q in_plan' at in
         let apart = places_apart p w l x host f prepared j i q place in_plan' in_plan (λ same. omega (arith, same, lt, few)) other here in
         let sector = ap (λ (b : List ℕ). if nat_lt (sector_at h q k) f.size then b else replicate 512 0) (beside_same q k other.begins (place_even p w l x host f prepared j q other) apart) in
-        subst (λ (o : Option (List ℕ)). StandsFor l k o (sector_in f.size (seen host g) (sector_at h q k))) (sym (held_now k))
-        (subst (λ (b : List ℕ). StandsFor l k (own_in x (synced host f) k) b) (sym sector) (filled j q k lt at in_c low))
+        subst (λ (o : Option (List ℕ)). StandsWhole l k o (sector_in f.size (seen host g) (sector_at h q k))) (sym (held_now k))
+        (subst (λ (b : List ℕ). StandsWhole l k (own_in x (synced host f) k) b) (sym sector) (filled j q k lt at in_c low))

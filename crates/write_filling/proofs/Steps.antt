@@ -28,7 +28,6 @@ use Rattle.chain_model.specs.Folder.{Volumes}
 use Rattle.chain_model.specs.Own.{own_in}
 use Rattle.chain_laws.specs.Laid.{Laying}
 use Rattle.chain_laws.specs.Written.{FileWritten}
-use Rattle.part_laws.specs.Steps.{StandsFor}
 use Rattle.part_laws.proofs.Held.{alike_written}
 use Rattle.volume_chain.specs.Chain.{path_in, place_in, target_of}
 use Rattle.volume_chain.specs.declared.chain.Chain.{Chain}
@@ -46,7 +45,7 @@ use Rattle.cluster_filling.proofs.Steps.{source_kept}
 use Rattle.write_planning.specs.Linked.{place_at}
 use Rattle.write_planning.specs.Plan.{found_at, span_of}
 use Rattle.write_planning.specs.Span.{at_of, first_of, length_of, width_of}
-use Rattle.write_preparing.specs.Filled.{AreFilled, IsFilled}
+use Rattle.write_preparing.specs.Filled.{AreFilled, IsFilled, StandsWhole}
 use Rattle.write_preparing.specs.Placed.{clusters_of, plan_of}
 use Rattle.write_preparing.specs.Preparing.{IsPrepared}
 use Rattle.write_preparing.specs.declared.placed.Placed.{Placed}
@@ -144,7 +143,7 @@ module _ (s : Fillings) (c : Chain) (w : Layer) (l : Laying) (x : VolumeRecord) 
   passed_over : next_place s ≡ None → AreFilled s.placed (s.done + 1) w l x host f
   passed_over none j place n lt at in_c low = go (cases_lt j s.done)
     where
-      go : (j < s.done) ⊎ (s.done ≤ j) → StandsFor l n (own_in x (synced host f) n) (sector_in f.size (seen host f) (sector_at h place n))
+      go : (j < s.done) ⊎ (s.done ≤ j) → StandsWhole l n (own_in x (synced host f) n) (sector_in f.size (seen host f) (sector_at h place n))
       go (inl earlier) = k.filled j place n earlier at in_c low
       go (inr le) =
           let same : j ≡ s.done = omega (arith, le, lt) in
@@ -293,13 +292,13 @@ module _ (s : Fillings) (c : Chain) (w : Layer) (l : Laying) (x : VolumeRecord) 
             sees : SeesFilled z c old l.part.bytes host now
             sees = file_seen z c host old l.part.bytes e now filled.file (ap e.file (sym same_file) ∙ o.put.here)
 
-            go : (j < s.done) ⊎ (s.done ≤ j) → StandsFor l n (own_in x (synced host now) n) (sector_in now.size (seen host now) (sector_at h q n))
+            go : (j < s.done) ⊎ (s.done ≤ j) → StandsWhole l n (own_in x (synced host now) n) (sector_in now.size (seen host now) (sector_at h q n))
             go (inl earlier) = o.filled j q n earlier at in_c low
             go (inr le) =
                 let same : j ≡ s.done = omega (arith, le, less) in
                 let at_done : next_place s ≡ Some q = ap (λ m. place_at (plan_of s.placed) (clusters_of s.placed) m) (sym same) ∙ at in
                 let is_place : place ≡ q = one_place place q (next_place s) gets at_done in
-                subst (λ m. StandsFor l n (own_in x (synced host now) n) (sector_in now.size (seen host now) (sector_at h m n))) is_place
+                subst (λ m. StandsWhole l n (own_in x (synced host now) n) (sector_in now.size (seen host now) (sector_at h m n))) is_place
                 (stands s c w l x old host now k.image o.prepared o.since o.well lt place gets new is z of sees n (in_c ∙ ap (λ m. first_of (span_of (plan_of s.placed)) + m) same) low)
 
     pub ended : (e : Content) (refusal : Refusal) (before : ℕ) → IsWellFormed d → IsWellFormed e → WritesInside z c host d e → IsFault refusal → IsRisen before faults refusal → FillsOne s c w l x old host faults room (Ended tt refusal) f d e

@@ -36,6 +36,7 @@ use Rattle.cluster_filling.proofs.Paths.{filled_alike}
 use Rattle.write_planning.specs.Linked.{place_in}
 use Rattle.write_planning.specs.Plan.{found_at, places_below, span_of, tables_of, target_found}
 use Rattle.write_planning.specs.Span.{first_of, width_of}
+use Rattle.write_preparing.specs.Filled.{StandsWhole}
 use Rattle.write_preparing.specs.Preparing.{IsPrepared}
 use Rattle.write_filling.specs.Cluster.{IsNewCluster}
 use Rattle.write_filling.specs.Said.{capacity_said, entry_found}
@@ -161,15 +162,22 @@ module _ (s : Fillings) (c : Chain) (w : Layer) (l : Laying) (x : VolumeRecord) 
           zeros q at (entry_is (Zero q) at n low in_c) (subst (λ (o : Option Id). ReadsBelow c old o n b) (no_source q at) below) (since_synced l x old host f n prepared.over.writer.knows.alone since low)
       go (Data q) at = absurd (data_stays (width_of (span_of s.placed.plan)) (tables_of s.placed.plan + places_below s.placed.plan s.done) place s.placed.clusters.numbers.items found q at gets)
 
-  pub stands : (n : ℕ) → cluster_of h n ≡ c0 → n < sectors_of x → StandsFor l n (own_in x (synced host f) n) (sector_in f.size (seen host f) (sector_at h place n))
+  pub stands : (n : ℕ) → cluster_of h n ≡ c0 → n < sectors_of x → StandsWhole l n (own_in x (synced host f) n) (sector_in f.size (seen host f) (sector_at h place n))
   stands n in_c low = go (cases_lt n l.part.at) (cases_lt n (l.part.at + sectors_in part))
     where
       b : List ℕ
       b = sector_in f.size (seen host f) (sector_at h place n)
 
-      go : (n < l.part.at) ⊎ (l.part.at ≤ n) → (n < l.part.at + sectors_in part) ⊎ (l.part.at + sectors_in part ≤ n) → StandsFor l n (own_in x (synced host f) n) (sector_in f.size (seen host f) (sector_at h place n))
-      go (inl before) rest = outside n low in_c (λ inside. omega (arith, before, inside.0)) (sector_in f.size (seen host f) (sector_at h place n)) (there n in_c)
-      go (inr le) (inr behind) = outside n low in_c (λ inside. omega (arith, behind, inside.1)) (sector_in f.size (seen host f) (sector_at h place n)) (there n in_c)
+      past : (IsInPart l.part n → ⊥) → StandsWhole l n (own_in x (synced host f) n) (sector_in f.size (seen host f) (sector_at h place n))
+      past out = record {
+        stands = outside n low in_c out (sector_in f.size (seen host f) (sector_at h place n)) (there n in_c);
+        part = λ inside. absurd (out inside);
+      }
+
+      go : (n < l.part.at) ⊎ (l.part.at ≤ n) → (n < l.part.at + sectors_in part) ⊎ (l.part.at + sectors_in part ≤ n) → StandsWhole l n (own_in x (synced host f) n) (sector_in f.size (seen host f) (sector_at h place n))
+      go (inl before) rest = past (λ inside. omega (arith, before, inside.0))
+      go (inr le) (inr behind) = past (λ inside. omega (arith, behind, inside.1))
       go (inr le) (inl within) =
           let inside : IsIn k (sectors_in part) n = subst (λ m. (m ≤ n) × (n < m + sectors_in part)) (sym from_is) (le, within) in
-          inl ((le, within), (there n in_c).inside inside ∙ ap (λ m. sector_of part (n - m)) from_is)
+          let same = (there n in_c).inside inside ∙ ap (λ m. sector_of part (n - m)) from_is in
+          record { stands = inl ((le, within), same); part = λ here. same }
