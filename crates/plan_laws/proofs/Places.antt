@@ -33,14 +33,14 @@ use Rattle.plan_laws.specs.Given.{MayGetPlaces}
 
 -- ---- which clusters get a place
 
-record IsGiven (p : WritePlan) (placed : List ℕ) (start end k place : ℕ) : Type 0 where
-  index : ℕ
-  low : start ≤ index
-  high : index < end
-  is : k ≡ first_of (span_of p) + index
-  at : place_at p placed index ≡ Some place
+pub record IsGiven (p : WritePlan) (placed : List ℕ) (start end k place : ℕ) : Type 0 where
+  pub index : ℕ
+  pub low : start ≤ index
+  pub high : index < end
+  pub is : k ≡ first_of (span_of p) + index
+  pub at : place_at p placed index ≡ Some place
 
-given : (p : WritePlan) (placed : List ℕ) (group start end : ℕ) (links : Links) (k place : ℕ) → plan.AreLinks p placed group start end (Some links) → to_of links k ≡ Some place → IsGiven p placed start end k place
+pub given : (p : WritePlan) (placed : List ℕ) (group start end : ℕ) (links : Links) (k place : ℕ) → plan.AreLinks p placed group start end (Some links) → to_of links k ≡ Some place → IsGiven p placed start end k place
 given p placed group start end links k place are to = go (cases_lt k (first_of (span_of p) + start)) (cases_lt k (first_of (span_of p) + end))
   where
     outside : ((j : ℕ) → start ≤ j → j < end → k ≢ first_of (span_of p) + j) → IsGiven p placed start end k place
@@ -62,11 +62,11 @@ given p placed group start end links k place are to = go (cases_lt k (first_of (
 -- ---- the place of a cluster
 
 -- it is that of a cluster that is taken, or one that zeros keep
-data Placing (width : ℕ) (placed : List ℕ) (target : Target) (place : ℕ) : Type 0 where
+pub data Placing (width : ℕ) (placed : List ℕ) (target : Target) (place : ℕ) : Type 0 where
   taken : (m : ℕ) → target ≡ New m → place ≡ min (slice_index placed m * width) (2 ^ 64 - 1) → Placing width placed target place
   kept : target ≡ Kept place → Placing width placed target place
 
-placing : (width : ℕ) (placed : List ℕ) (target : Target) (place : ℕ) → place_in width placed target ≡ Some place → Placing width placed target place
+pub placing : (width : ℕ) (placed : List ℕ) (target : Target) (place : ℕ) → place_in width placed target ≡ Some place → Placing width placed target place
 placing width placed (InPlace at) place is = absurd cc
 placing width placed (Kept at) place is = let same : at ≡ place = cc in kept (ap Kept same)
 placing width placed (New m) place is = taken m refl cc
@@ -85,13 +85,13 @@ kept_found n place o looked some is = kept_by n place looked.entry (sym (ap (tar
 module _ (p : WritePlan) (placed : List ℕ) (file : File) (capacity : ℕ) (h : Header) (start end : ℕ) (header : layer_header file capacity ≡ Ok h) (sound : IsSound file capacity)
     (may : MayGetPlaces p placed (layer h file) capacity start end) where
   -- what is known of a place that a cluster gets
-  record Known (j place : ℕ) : Type 0 where
-    counted : IsCounted (layer h file) place
-    free : IsNamedOnlyAt (layer h file) capacity (entry_position (layer h file) (first_of (span_of p) + j)) place
-    by : ((m : ℕ) × (target_at p j ≡ New m) × (place ≡ slice_index placed m * width_of (span_of p)) × IsSpare (layer h file) capacity place)
+  pub record Known (j place : ℕ) : Type 0 where
+    pub counted : IsCounted (layer h file) place
+    pub free : IsNamedOnlyAt (layer h file) capacity (entry_position (layer h file) (first_of (span_of p) + j)) place
+    pub by : ((m : ℕ) × (target_at p j ≡ New m) × (place ≡ slice_index placed m * width_of (span_of p)) × IsSpare (layer h file) capacity place)
         ⊎ (names (layer h file) capacity (entry_position (layer h file) (first_of (span_of p) + j)) ≡ Some place)
 
-  known : (j place : ℕ) → start ≤ j → j < end → Placing (width_of (span_of p)) placed (target_at p j) place → Known j place
+  pub known : (j place : ℕ) → start ≤ j → j < end → Placing (width_of (span_of p)) placed (target_at p j) place → Known j place
   known j place low high (taken m new at) =
       let spare = may.spare j m low high new in
       let is : slice_index placed m * width_of (span_of p) ≡ place = sym (at ∙ omega (arith, spare.1)) in
@@ -107,7 +107,7 @@ module _ (p : WritePlan) (placed : List ℕ) (file : File) (capacity : ℕ) (h :
       record { counted = both.0; free = both.1; by = inr at.name }
 
   -- no place is given twice
-  same_index : (i j place : ℕ) → i < count_of (span_of p) → j < count_of (span_of p) → Known i place → Known j place → first_of (span_of p) + i ≡ first_of (span_of p) + j
+  pub same_index : (i j place : ℕ) → i < count_of (span_of p) → j < count_of (span_of p) → Known i place → Known j place → first_of (span_of p) + i ≡ first_of (span_of p) + j
   same_index i j place inside within one two = go one.by two.by
     where
       some : 0 < entries (layer h file)
@@ -139,7 +139,7 @@ module _ (p : WritePlan) (placed : List ℕ) (file : File) (capacity : ℕ) (h :
       go (inr named) (inr also) = at_entry also
 
 -- a cluster that the part meets begins below its end
-begins_below : (p : WritePlan) (capacity j : ℕ) → at_of (span_of p) + length_of (span_of p) ≤ capacity → j < count_of (span_of p) → (first_of (span_of p) + j) * width_of (span_of p) < capacity
+pub begins_below : (p : WritePlan) (capacity j : ℕ) → at_of (span_of p) + length_of (span_of p) ≤ capacity → j < count_of (span_of p) → (first_of (span_of p) + j) * width_of (span_of p) < capacity
 begins_below p capacity j fits lt =
     let met = inside_met p.span.at p.span.length p.span.width (first_of (span_of p) + j) p.span.part (omega arith, omega (arith, lt)) in
     let low = quotient_low (p.span.at + met.0) p.span.width (first_of (span_of p) + j) met.2 in
