@@ -1,0 +1,10 @@
+pub mod Standing
+pub mod Written
+pub mod Rows
+pub mod Synced
+pub mod Begun
+pub mod Made
+pub mod Passed
+pub mod Ends
+pub mod Steps
+pub mod Falls
