@@ -6,5 +6,6 @@ pub mod Begun
 pub mod Made
 pub mod Passed
 pub mod Ends
+pub mod Onward
 pub mod Steps
 pub mod Falls

@@ -1,9 +1,10 @@
 -- What each step leaves.
-use Rattle.std.proofs.Common.{◌≡◌, ◌⊎◌, inl, inr, ℕ, ◌/◌, ◌%◌, ◌^◌, Some, Ok, Err, refl, sym, ap, ◌∙◌, subst, arith}
+use Rattle.std.proofs.Common.{◌≡◌, ◌⊎◌, inl, inr, ℕ, ◌/◌, ◌%◌, ◌^◌, Some, Ok, Err, refl, sym, ap, ◌∙◌, subst, arith, Option}
 use Rattle.std.proofs.lemmas.Nat.{div-add-mod'}
 use Rattle.sd_names.specs.Turn.{MatchTurn}
 use Rattle.sd_names.specs.declared.refusal.Refusal.{Refusal}
 use Rattle.sd_names.specs.declared.refusal.Refusal.TheVariants.{DiskFault}
+use Rattle.sd_names.specs.declared.turn.Turn.{Turn}
 use Rattle.sd_names.specs.declared.turn.Turn.TheVariants.{More, Done, Ended}
 use Rattle.shared_disk.specs.Calls.{IsPut, IsSame, Syncs, synced}
 use Rattle.shared_disk.specs.Content.{Content, File}
@@ -22,7 +23,7 @@ use Rattle.qcow_layer.specs.Looking.{IsFault}
 use Rattle.qcow_layer.specs.declared.layer.Layer.{Layer}
 use Rattle.layer_placing.proofs.Ends.{same_put}
 use Rattle.layer_writing.specs.Holding.{ComesBy, on_medium}
-use Rattle.layer_linking.specs.Calls.{IsSameLinking, links_of, to_of}
+use Rattle.layer_linking.specs.Calls.{CallOf, IsSameLinking, links_of, stage_of, to_of}
 use Rattle.layer_linking.specs.Linking.{IsAsBefore, IsDone, IsLeftSo, IsLinked, KnowsLinking, LeavesOthers, LinksOn, behind_of}
 use Rattle.layer_linking.specs.declared.linking.Linking.{Linking}
 use Rattle.layer_linking.specs.declared.links.Links as links
@@ -43,6 +44,7 @@ use Rattle.write_linking.specs.declared.stage.Stage.TheVariants.{Syncing, Next, 
 use Rattle.write_linking.proofs.Begun.{are, knows_at}
 use Rattle.write_linking.proofs.Ends.{linked_all}
 use Rattle.write_linking.proofs.Made.{ready_after}
+use Rattle.write_linking.proofs.Onward.{goes_on}
 use Rattle.write_linking.proofs.Passed.{ready_past}
 use Rattle.write_linking.proofs.Synced.{ready_now}
 use Rattle.write_linking.proofs.Written.{written_on}
@@ -54,9 +56,12 @@ fault_is before after refusal fault risen = absurd fault
 
 module _ (p : Placed) (w : Layer) (l : Laying) (x : VolumeRecord) (host faults : ℕ) (begun f : File) (d : Content) (there : d.file w.target.place ≡ Some f) where
   -- nothing is changed
-  same_step : (turn : StageTurn) (e : Content) → IsSame d e → FileWritten l begun f
+  itself : l.records l.volume ≡ Some x → (o : File) → d.file w.target.place ≡ Some o → FileWritten l o f
+  itself says o at = subst (λ (q : File). FileWritten l q f) (one_file f o (d.file w.target.place) there at) (alike_written l x f f says (λ g out. (g, out, λ j. refl)))
+
+  same_step : (turn : StageTurn) (e : Content) → l.records l.volume ≡ Some x → IsSame d e → FileWritten l begun f
       → MatchTurn turn (λ s. KnowsStage s w l x host begun f) (λ _. IsLinkedAll w l x host f) (λ _ refusal. refusal ≡ DiskFault faults) → LinksStep w l x host faults turn begun d e
-  same_step turn e same written after = record { now = f; put = same_put d e w.target.place f same there; written = written; after = after }
+  same_step turn e says same written after = record { now = f; put = same_put d e w.target.place f same there; written = written; on = itself says; after = after }
 
   -- ---- the sync
 
@@ -68,11 +73,12 @@ module _ (p : Placed) (w : Layer) (l : Laying) (x : VolumeRecord) (host faults :
         now = synced host f;
         put = here;
         written = on;
+        on = λ o at_o. subst (λ (q : File). FileWritten l q (synced host f)) (one_file f o (d.file w.target.place) there at_o) (alike_written l x f (synced host f) is.filled.prepared.over.says (λ g out. (g, synced_file host f g out, λ j. refl)));
         after = (ready_now p w l x host f (formed.files w.target.place (synced host f) here.here) is, on);
       }
 
   pub failed_step : (a : DiskAnswer) (e : Content) → IsWritten p w l x host f × FileWritten l begun f → Syncs d host w.target.place (Err a) e → LinksStep w l x host faults (Ended tt (refusal_of a faults)) begun d e
-  failed_step Failed e (is, written) call = same_step (Ended tt (DiskFault faults)) e call written refl
+  failed_step Failed e (is, written) call = same_step (Ended tt (DiskFault faults)) e is.filled.prepared.over.says call written refl
   failed_step NoFile e (is, written) call = absurd (no_file f (d.file w.target.place) call.1 there)
   failed_step Exists e (is, written) call = absurd call
   failed_step OutOfFile e (is, written) call = absurd call
@@ -103,11 +109,12 @@ module _ (p : Placed) (w : Layer) (l : Laying) (x : VolumeRecord) (host faults :
   next_known sector (Ended b refusal) ready written on = absurd on
 
   pub next_step : (sector : ℕ) (turn : StageTurn) → IsReady p sector w l x host f × FileWritten l begun f → PassesOn p sector turn → LinksStep w l x host faults turn begun d d
-  next_step sector turn (ready, written) on = same_step turn d refl written (next_known sector turn ready written on)
+  next_step sector turn (ready, written) on = same_step turn d ready.says refl written (next_known sector turn ready written on)
 
   -- ---- a step of a sector's linking
 
-  module _ (next : ℕ) (k : Linking) (e : Content) (formed : IsWellFormed e) (knows : KnowsLinks p next k w l x host begun f) (leaves : LeavesOthers w.target.place d e) (left : IsLeftSo w k host knows.start e) where
+  module _ (next : ℕ) (k : Linking) (e : Content) (formed : IsWellFormed e) (knows : KnowsLinks p next k w l x host begun f) (leaves : LeavesOthers w.target.place d e) (left : IsLeftSo w k host knows.start e)
+      (before : IsWellFormed d) (done : Turn Linking (Unit {0}) (Unit {0})) (call : CallOf (stage_of k) k w host faults done d e) where
     abbrev start : File
     start = knows.start
 
@@ -154,11 +161,18 @@ module _ (p : Placed) (w : Layer) (l : Laying) (x : VolumeRecord) (host faults :
         either (inl old) = inl (subst (λ n. SameContent w.work.header n (on_medium knows.start) (on_medium g)) (sym knows.ready.capacity) old.content)
         either (inr new) = inr (subst (λ n. Linked w.work.header n (to_of k) (behind_of w k) (on_medium knows.start) (on_medium g)) (sym knows.ready.capacity) new)
 
-    written_now : FileWritten l begun left.file
-    written_now =
-        written_on l begun knows.start left.file knows.written
+    from_start : FileWritten l knows.start left.file
+    from_start =
         (links_written l x w.work.header (to_of k) (behind_of w k) knows.start left.file knows.ready.says old_layers now_layers
         (λ g out. subst (λ (o : File). StandAtPlaces l x w.work.header (to_of k) o) (sym (settled_file knows.start g knows.ready.settled out)) stand) comes)
+
+    written_now : FileWritten l begun left.file
+    written_now = written_on l begun knows.start left.file knows.written from_start
+
+    on_now : (o : File) → d.file w.target.place ≡ Some o → FileWritten l o left.file
+    on_now o at =
+        subst (λ (q : File). FileWritten l q left.file) (one_file f o (d.file w.target.place) there at)
+        (goes_on k w l x host faults knows.start f d e there before knows.ready.says old_layers knows.ready.capacity (knows.knows d there) left from_start done call)
 
     leaves_so : (turn : StageTurn) → MatchTurn turn (λ s. KnowsStage s w l x host begun left.file) (λ _. IsLinkedAll w l x host left.file) (λ _ refusal. refusal ≡ DiskFault faults)
         → LinksStep w l x host faults turn begun d e
@@ -166,6 +180,7 @@ module _ (p : Placed) (w : Layer) (l : Laying) (x : VolumeRecord) (host faults :
       now = left.file;
       put = record { dirs = leaves.dirs; here = left.there; others = leaves.files };
       written = written_now;
+      on = on_now;
       after = after;
     }
 
@@ -192,18 +207,23 @@ module _ (p : Placed) (w : Layer) (l : Laying) (x : VolumeRecord) (host faults :
           written_now,
         )
 
-    fault_step : (before : ℕ) (refusal : Refusal) → IsFault refusal → IsRisen before faults refusal → LinksStep w l x host faults (Ended tt refusal) begun d e
-    fault_step before refusal fault risen = leaves_so (Ended tt refusal) (fault_is before faults refusal fault risen)
+    fault_step : (count : ℕ) (refusal : Refusal) → IsFault refusal → IsRisen count faults refusal → LinksStep w l x host faults (Ended tt refusal) begun d e
+    fault_step count refusal fault risen = leaves_so (Ended tt refusal) (fault_is count faults refusal fault risen)
 
-  pub more_links : (next : ℕ) (k k' : Linking) (e : Content) → IsWellFormed e → IsSameLinking k k' → LeavesOthers w.target.place d e × ((start : File) → KnowsLinking k w host start d → LinksOn k w host start (More k') e)
-      → KnowsLinks p next k w l x host begun f → LinksStep w l x host faults (More (Links p next k')) begun d e
-  more_links next k k' e formed same (leaves, on) knows = let step = on knows.start (knows.knows d there) in more_step next k e formed knows leaves step.left k' same step.after
+  pub more_links : (next : ℕ) (k k' : Linking) (e : Content) → IsWellFormed d → IsWellFormed e → IsSameLinking k k' → LeavesOthers w.target.place d e × ((start : File) → KnowsLinking k w host start d → LinksOn k w host start (More k') e)
+      → CallOf (stage_of k) k w host faults (More k') d e → KnowsLinks p next k w l x host begun f → LinksStep w l x host faults (More (Links p next k')) begun d e
+  more_links next k k' e before formed same (leaves, on) call knows = let step = on knows.start (knows.knows d there) in more_step next k e formed knows leaves step.left before (More k') call k' same step.after
 
-  pub done_links : (next : ℕ) (k : Linking) (e : Content) → IsWellFormed e → LeavesOthers w.target.place d e × ((start : File) → KnowsLinking k w host start d → LinksOn k w host start (Done tt) e)
-      → KnowsLinks p next k w l x host begun f → LinksStep w l x host faults (More (Next p next)) begun d e
-  done_links next k e formed (leaves, on) knows = let step = on knows.start (knows.knows d there) in done_step next k e formed knows leaves step.left step.after
+  pub done_links : (next : ℕ) (k : Linking) (e : Content) → IsWellFormed d → IsWellFormed e → LeavesOthers w.target.place d e × ((start : File) → KnowsLinking k w host start d → LinksOn k w host start (Done tt) e)
+      → CallOf (stage_of k) k w host faults (Done tt) d e → KnowsLinks p next k w l x host begun f → LinksStep w l x host faults (More (Next p next)) begun d e
+  done_links next k e before formed (leaves, on) call knows = let step = on knows.start (knows.knows d there) in done_step next k e formed knows leaves step.left before (Done tt) call step.after
 
-  pub ended_links : (next before : ℕ) (k : Linking) (refusal : Refusal) (e : Content) → IsWellFormed e → IsRisen before faults refusal
-      → LeavesOthers w.target.place d e × ((start : File) → KnowsLinking k w host start d → LinksOn k w host start (Ended tt refusal) e)
+  pub ended_links : (next count : ℕ) (k : Linking) (refusal : Refusal) (e : Content) → IsWellFormed d → IsWellFormed e → IsRisen count faults refusal
+      → LeavesOthers w.target.place d e × ((start : File) → KnowsLinking k w host start d → LinksOn k w host start (Ended tt refusal) e) → CallOf (stage_of k) k w host faults (Ended tt refusal) d e
       → KnowsLinks p next k w l x host begun f → LinksStep w l x host faults (Ended tt refusal) begun d e
-  ended_links next before k refusal e formed risen (leaves, on) knows = let step = on knows.start (knows.knows d there) in fault_step next k e formed knows leaves step.left before refusal step.after risen
+  ended_links next count k refusal e before formed risen (leaves, on) call knows =
+      let step = on knows.start (knows.knows d there) in fault_step next k e formed knows leaves step.left before (Ended tt refusal) call count refusal step.after risen
+
+-- a disk tells one content
+pub told_once : (o : Option Content) (a b : Content) → o ≡ Some a → o ≡ Some b → b ≡ a
+told_once o a b one two = cc

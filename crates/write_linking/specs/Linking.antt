@@ -173,12 +173,13 @@ pub record IsLinkedAll (w : Layer) (l : Laying) (x : VolumeRecord) (host : ℕ) 
 
 -- ---- what a step leaves
 
--- A step changes the layer's file alone, and each outcome of it comes from one of the file in which all began, over which sectors of
--- the part may be laid.
+-- A step changes the layer's file alone, and each outcome of it comes from one of the file in which all began, and from one of the
+-- file before the step, over which sectors of the part may be laid.
 pub record LinksStep (w : Layer) (l : Laying) (x : VolumeRecord) (host faults : ℕ) (turn : StageTurn) (begun : File) (d e : Content) : Type 0 where
   pub now : File
   pub put : IsPut d (place_kept w) (Some now) e
   pub written : FileWritten l begun now
+  pub on : (f : File) → d.file (place_kept w) ≡ Some f → FileWritten l f now
   pub after : MatchTurn turn
       (λ s. KnowsStage s w l x host begun now)
       (λ _. IsLinkedAll w l x host now)
