@@ -39,7 +39,8 @@ use Rattle.plan_laws.proofs.Places.{given}
 use Rattle.place_writing.proofs.Pieces.{whole_row}
 use Rattle.write_preparing.specs.Placed.{clusters_of, plan_of}
 use Rattle.write_preparing.specs.declared.placed.Placed.{Placed}
-use Rattle.write_linking.specs.Linking.{AreLinksIn, IsLinkedAll, IsReady, IsWritten, KnowsLinks, KnowsStage, LinksStep, PassesOn, StageTurn, span_in}
+use Rattle.write_preparing.specs.Filled.{IsFilled}
+use Rattle.write_linking.specs.Linking.{AreLinksIn, IsLinkedAll, IsReady, KnowsLinks, KnowsStage, LinksStep, PassesOn, StageTurn, span_in}
 use Rattle.write_linking.specs.declared.stage.Stage.TheVariants.{Syncing, Next, Links}
 use Rattle.write_linking.proofs.Begun.{are, knows_at}
 use Rattle.write_linking.proofs.Ends.{linked_all}
@@ -65,20 +66,20 @@ module _ (p : Placed) (w : Layer) (l : Laying) (x : VolumeRecord) (host faults :
 
   -- ---- the sync
 
-  pub synced_step : (e : Content) → IsWellFormed e → IsWritten p w l x host f × FileWritten l begun f → Syncs d host w.target.place (Ok tt) e → LinksStep w l x host faults (More (Next p 0)) begun d e
+  pub synced_step : (e : Content) → IsWellFormed e → IsFilled p w l x host f × FileWritten l begun f → Syncs d host w.target.place (Ok tt) e → LinksStep w l x host faults (More (Next p 0)) begun d e
   synced_step e formed (is, written) (was, at, put) =
       let here : IsPut d w.target.place (Some (synced host f)) e = subst (λ (o : File). IsPut d w.target.place (Some (synced host o)) e) (one_file was f (d.file w.target.place) at there) put in
-      let on : FileWritten l begun (synced host f) = written_on l begun f (synced host f) written (alike_written l x f (synced host f) is.filled.prepared.over.says (λ o out. (o, synced_file host f o out, λ j. refl))) in
+      let on : FileWritten l begun (synced host f) = written_on l begun f (synced host f) written (alike_written l x f (synced host f) is.prepared.over.says (λ o out. (o, synced_file host f o out, λ j. refl))) in
       record {
         now = synced host f;
         put = here;
         written = on;
-        on = λ o at_o. subst (λ (q : File). FileWritten l q (synced host f)) (one_file f o (d.file w.target.place) there at_o) (alike_written l x f (synced host f) is.filled.prepared.over.says (λ g out. (g, synced_file host f g out, λ j. refl)));
+        on = λ o at_o. subst (λ (q : File). FileWritten l q (synced host f)) (one_file f o (d.file w.target.place) there at_o) (alike_written l x f (synced host f) is.prepared.over.says (λ g out. (g, synced_file host f g out, λ j. refl)));
         after = (ready_now p w l x host f (formed.files w.target.place (synced host f) here.here) is, on);
       }
 
-  pub failed_step : (a : DiskAnswer) (e : Content) → IsWritten p w l x host f × FileWritten l begun f → Syncs d host w.target.place (Err a) e → LinksStep w l x host faults (Ended tt (refusal_of a faults)) begun d e
-  failed_step Failed e (is, written) call = same_step (Ended tt (DiskFault faults)) e is.filled.prepared.over.says call written refl
+  pub failed_step : (a : DiskAnswer) (e : Content) → IsFilled p w l x host f × FileWritten l begun f → Syncs d host w.target.place (Err a) e → LinksStep w l x host faults (Ended tt (refusal_of a faults)) begun d e
+  failed_step Failed e (is, written) call = same_step (Ended tt (DiskFault faults)) e is.prepared.over.says call written refl
   failed_step NoFile e (is, written) call = absurd (no_file f (d.file w.target.place) call.1 there)
   failed_step Exists e (is, written) call = absurd call
   failed_step OutOfFile e (is, written) call = absurd call

@@ -36,7 +36,8 @@ use Rattle.part_survey.proofs.Finding.{shared, tells}
 use Rattle.write_preparing.specs.Placed.{clusters_of, plan_of}
 use Rattle.write_preparing.specs.declared.placed.Placed.{Placed}
 use Rattle.write_linking.proofs.Rows.{row_inside, row_same}
-use Rattle.write_linking.specs.Linking.{IsReady, IsTableInTime, IsWritten, place_of, span_in}
+use Rattle.write_preparing.specs.Filled.{IsFilled}
+use Rattle.write_linking.specs.Linking.{IsReady, IsTableInTime, place_of, span_in}
 
 -- ---- an L1 entry of a sound layer says whether the table is there
 
@@ -59,7 +60,7 @@ place_none width placed (InPlace at) is = (at, refl)
 place_none width placed (Kept at) is = absurd cc
 place_none width placed (New m) is = absurd cc
 
-module _ (p : Placed) (w : Layer) (l : Laying) (x : VolumeRecord) (host : ℕ) (f : File) (well : IsWellFormedFile (synced host f)) (is : IsWritten p w l x host f) where
+module _ (p : Placed) (w : Layer) (l : Laying) (x : VolumeRecord) (host : ℕ) (f : File) (well : IsWellFormedFile (synced host f)) (is : IsFilled p w l x host f) where
   abbrev h : Header
   h = w.work.header
 
@@ -73,22 +74,22 @@ module _ (p : Placed) (w : Layer) (l : Laying) (x : VolumeRecord) (host : ℕ) (
   T = seen_tables w host f
 
   header : layer_header (as_seen host f) w.target.capacity ≡ Ok w.work.header
-  header = is.filled.prepared.over.writer.knows.numbers.header
+  header = is.prepared.over.writer.knows.numbers.header
 
   sound : IsSound (as_seen host f) w.target.capacity
-  sound = is.filled.prepared.over.writer.knows.numbers.sound
+  sound = is.prepared.over.writer.knows.numbers.sound
 
   width : width_of (span_in p) ≡ 2 ^ w.work.header.cluster_bits
-  width = is.filled.prepared.over.found.width
+  width = is.prepared.over.found.width
 
   row : (t : ℕ) → t < sectors_of (span_in p) → row_of (seen_tables w host f) (group_in (span_in p) t) < w.work.header.l1_size
-  row t lt = row_inside (plan_of p) w.work.header width (as_seen host f) w.target.capacity t header is.filled.within lt
+  row t lt = row_inside (plan_of p) w.work.header width (as_seen host f) w.target.capacity t header is.within lt
 
   -- what was found of a sector's table
   found_is : (t : ℕ) → t < sectors_of (span_in p) → found_table (found_at (plan_of p) (start_in (span_in p) t)) ≡ names_table (l1_entry (seen_tables w host f) (row_of (seen_tables w host f) (group_in (span_in p) t)))
   found_is t lt =
-      let all = is.filled.prepared.over.all in
-      let at = is.filled.prepared.over.found.found (start_in (span_in p) t) (omega (arith, all, lt)) in
+      let all = is.prepared.over.all in
+      let at = is.prepared.over.found.found (start_in (span_in p) t) (omega (arith, all, lt)) in
       let inside : nat_lt (row_of (seen_tables w host f) (group_in (span_in p) t)) w.work.header.l1_size ≡ true = lt-ltb (row_of (seen_tables w host f) (group_in (span_in p) t)) w.work.header.l1_size (row t lt) in
       ap found_table at.1
       ∙ at.2.table
@@ -96,7 +97,7 @@ module _ (p : Placed) (w : Layer) (l : Laying) (x : VolumeRecord) (host : ℕ) (
       ∙ ap (λ (b : Bool). b && names_table (l1_entry (seen_tables w host f) (row_of (seen_tables w host f) (group_in (span_in p) t)))) inside
 
   says : Tells (plan_of p) (room_of (seen_tables w host f))
-  says = tells (plan_of p) (seen_tables w host f) is.filled.prepared.over.found is.filled.prepared.over.all
+  says = tells (plan_of p) (seen_tables w host f) is.prepared.over.found is.prepared.over.all
 
   tables : (t : ℕ) → t < sectors_of (span_in p) → (o : Option ℕ) → table_with (plan_of p) t ≡ o → IsTableInTime p 0 t (seen_tables w host f) o
   tables t lt (Some m) with_it = go (l1_told entry false fine (sym (found_is t lt) ∙ wanting))
@@ -151,30 +152,30 @@ module _ (p : Placed) (w : Layer) (l : Laying) (x : VolumeRecord) (host : ℕ) (
       let many = p.many in
       let inside : m < length (clusters_of p) = omega (arith, many, lt) in
       subst (λ n. IsSpare (seen_tables w host f) w.target.capacity (slice_index (clusters_of p) m * n) × (slice_index (clusters_of p) m * n < 2 ^ 56)) (sym width)
-      (is.filled.prepared.placed.spare m inside, is.filled.prepared.placed.low m inside)
+      (is.prepared.placed.spare m inside, is.prepared.placed.low m inside)
 
   pub ready_now : IsReady p 0 w l x host (synced host f)
   ready_now = record {
-    says = is.filled.prepared.over.says;
-    cow = is.filled.prepared.over.cow;
-    capacity = is.filled.prepared.over.capacity;
-    at = is.filled.prepared.over.at;
-    length = is.filled.prepared.over.length;
-    within = is.filled.within;
-    writer = synced_knows w host f is.filled.prepared.over.writer;
-    settled = alone_synced host f is.filled.prepared.over.writer.knows.alone;
+    says = is.prepared.over.says;
+    cow = is.prepared.over.cow;
+    capacity = is.prepared.over.capacity;
+    at = is.prepared.over.at;
+    length = is.prepared.over.length;
+    within = is.within;
+    writer = synced_knows w host f is.prepared.over.writer;
+    settled = alone_synced host f is.prepared.over.writer.knows.alone;
     well = well;
     given = record {
       width = width;
-      found = λ j low high. let all = is.filled.prepared.over.all in let at = is.filled.prepared.over.found.found j (omega (arith, all, high)) in (at.0, at.1, at.2.entry);
+      found = λ j low high. let all = is.prepared.over.all in let at = is.prepared.over.found.found j (omega (arith, all, high)) in (at.0, at.1, at.2.entry);
       spare = λ j m low high new. spare m (new_wanted (plan_of p) j m new high).1;
       many = p.many;
-      rising = is.filled.prepared.placed.rising;
+      rising = is.prepared.placed.rising;
     };
     spare = λ t m low lt with_it. spare m (let few = table_counted (plan_of p) t m lt with_it in omega (arith, few));
     tables = λ t low lt. tables t lt (table_with (plan_of p) t) refl;
-    stands = λ j place k low inside at. is.filled.filled j place k inside.index at inside.cluster inside.inside;
-    part = λ j place k low inside at among. is.part j place k inside at among;
+    stands = λ j place k low inside at. (is.filled j place k inside.index at inside.cluster inside.inside).stands;
+    part = λ j place k low inside at among. (is.filled j place k inside.index at inside.cluster inside.inside).part among;
     holds = λ j k inside which among. held j k inside.index inside.cluster inside.inside among which;
   }
     where
@@ -182,4 +183,4 @@ module _ (p : Placed) (w : Layer) (l : Laying) (x : VolumeRecord) (host : ℕ) (
           → own_in x (synced host f) k ≡ Some (sector_in_part l.part k)
       held j k lt cluster low among (inl before) = absurd (omega (arith, before))
       held j k lt cluster low among (inr none) =
-          let at = place_none (width_of (span_in p)) (clusters_of p) (target_at (plan_of p) j) none in is.filled.prepared.holds j at.0 k lt at.1 cluster among low
+          let at = place_none (width_of (span_in p)) (clusters_of p) (target_at (plan_of p) j) none in is.prepared.holds j at.0 k lt at.1 cluster among low

@@ -118,12 +118,6 @@ pub record IsSectorIn (p : Placed) (w : Layer) (x : VolumeRecord) (j k : ℕ) : 
   pub cluster : cluster_of (header_kept w) k ≡ first_of (span_in p) + j
   pub inside : k < own.sectors_of x
 
--- All new clusters are written, and where they get their places the host sees the part in each of its sectors.
-pub record IsWritten (p : Placed) (w : Layer) (l : Laying) (x : VolumeRecord) (host : ℕ) (f : File) : Type 0 where
-  pub filled : IsFilled p w l x host f
-  pub part : (j place k : ℕ) → IsSectorIn p w x j k → place_of p j ≡ Some place → IsInPart l.part k
-      → sector_in f.size (seen host f) (sector_at (header_kept w) place k) ≡ sector_in_part l.part k
-
 -- Nothing in the file is unsynced, and its writer knows it. The volume holds the part's sectors in clusters that were data, and in
 -- those whose entries stand in a sector before this one. The others may get their places, where stands what they are to be.
 pub record IsReady (p : Placed) (sector : ℕ) (w : Layer) (l : Laying) (x : VolumeRecord) (host : ℕ) (f : File) : Type 0 where
@@ -161,7 +155,7 @@ pub record KnowsLinks (p : Placed) (next : ℕ) (k : Linking) (w : Layer) (l : L
 
 -- `begun` is the file in which it began
 abbrev pub KnowsStage : Stage → Layer → Laying → VolumeRecord → ℕ → File → File → Type 0
-KnowsStage (Syncing p) w l x host begun f = IsWritten p w l x host f × FileWritten l begun f
+KnowsStage (Syncing p) w l x host begun f = IsFilled p w l x host f × FileWritten l begun f
 KnowsStage (Next p sector) w l x host begun f = IsReady p sector w l x host f × FileWritten l begun f
 KnowsStage (Links p next k) w l x host begun f = KnowsLinks p next k w l x host begun f
 
@@ -215,4 +209,4 @@ LinksOn s w host faults turn d e = LinksAt s.stage w host faults (stage_turn tur
 pub record IsBegun (p : Placed) (s : WriteLinking) : Type 0 where
   pub placed : placed_in s ≡ p
   pub left : (w : Layer) → linking_left w s ≡ sectors_of (span_in p) * sector_left w + 2
-  pub knows : (w : Layer) (l : Laying) (x : VolumeRecord) (host : ℕ) (begun f : File) → IsWritten p w l x host f → FileWritten l begun f → Knows s w l x host begun f
+  pub knows : (w : Layer) (l : Laying) (x : VolumeRecord) (host : ℕ) (begun f : File) → IsFilled p w l x host f → FileWritten l begun f → Knows s w l x host begun f
