@@ -1,4 +1,6 @@
 // Opens an image, and settles it.
+ghost use Rattle.chain_settling.specs.Fit.{AreValid};
+
 use chain_settling::Settling;
 use sd_names::{HostId, Id, Refusal, Turn};
 use shared_disk::SharedDisk;
@@ -32,7 +34,9 @@ pub(crate) fn open_image<D: SharedDisk>(
 }
 
 // Settles an image that was opened.
-fn settle<D: SharedDisk>(host: HostId, disk: &mut D, chain: Chain) -> Result<Chain, Refusal> {
+fn settle<D: SharedDisk>(host: HostId, disk: &mut D, chain: Chain) -> Result<Chain, Refusal>
+    requires { AreValid chain }
+{
     let mut work = Settling::begin(chain);
     for _ in 0..u64::MAX {
         match work.step(host, disk) {
