@@ -11,3 +11,4 @@ mod running;
 mod stepping;
 
 pub use part::ReadPart;
+pub use stepping::place_on;

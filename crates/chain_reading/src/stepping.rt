@@ -20,8 +20,8 @@ use sd_names::{HostId, Id, Place, Turn};
 use shared_disk::SharedDisk;
 use volume_chain::Chain;
 
-// How many volumes of a path stand before this one.
-fn place_on(path: &[Id], volume: &Id) -> usize
+/// How many volumes of a path stand before this one, which is its index there; the path's length where it isn't one of them.
+pub fn place_on(path: &[Id], volume: &Id) -> usize
     ensures { result ≡ place_on volume.now path.now }
 {
     for (k, id) in path.iter().enumerate() {

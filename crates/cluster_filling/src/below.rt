@@ -1,5 +1,5 @@
 // Which volume is read for a new cluster.
-ghost use Rattle.std.specs.Prelude.{◌≡◌, ◌<◌};
+ghost use Rattle.std.specs.Prelude.{◌≡◌, ◌^◌, ◌<◌};
 ghost use Rattle.volume_chain.specs.Chain.{path_in};
 ghost use Rattle.cluster_filling.specs.Cluster.{source_on};
 
@@ -10,7 +10,7 @@ use volume_chain::Chain;
 /// The volume that is read for a new cluster's sectors outside the part, where the layer says so of the cluster: the next one
 /// of the path behind the volume with this index, or none where the cluster reads as zeros.
 pub fn source(chain: &Chain, index: usize, entry: Entry) -> Option<Id>
-    requires { index < 64 }
+    requires { index < 2 ^ 63 }
     ensures { result ≡ source_on (path_in chain.now) index entry }
 {
     match entry {

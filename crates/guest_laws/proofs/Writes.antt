@@ -30,6 +30,7 @@ use Rattle.volume_chain.specs.declared.volumes.OpenVolume.TheVariants.{Cow}
 use Rattle.volume_chain.proofs.Along.{along_both}
 use Rattle.volume_chain.proofs.Apart.{path_apart}
 use Rattle.volume_chain.proofs.Shown.{shown_alike}
+use Rattle.chain_reading.proofs.Lent.{chain_same}
 use Rattle.raw_writing.specs.Image.{IsOnMedium, IsPartOf, OnlyChanges}
 use Rattle.raw_writing.proofs.Image.{all_settled, changed_at, elsewhere, others, rest_kept, settled_but, text_apart, there_still}
 use Rattle.guest_laws.specs.Write.{KnowsOthers, KnowsWrite}
@@ -137,6 +138,13 @@ module _ (c : Chain) (index : ℕ) (w next : Layer) (l : Laying) (x : VolumeReco
         (changed_comes l f now (folder_of (dir_in c.target) d) (folder_of (dir_in c.target) e) (changed_at c l.volume host d e only f now was_here put_here.here) written);
     there = subst (λ (t : layer.Target). e.file t.place ≡ Some now) (sym target) put.here;
   }
+
+-- ---- a step that leaves the layer
+
+pub file_steps : (c : Chain) (index : ℕ) (w : Layer) (l : Laying) (x : VolumeRecord) (host : ℕ) (start : Folder) (f now : File) (d e : Content) → KnowsWrite c index w l x host start f d
+    → IsPut d w.target.place (Some now) e → FileWritten l f now → KnowsWrite c index w l x host start now e
+file_steps c index w l x host start f now d e k put written =
+    subst (λ (b : Chain). KnowsWrite b index w l x host start now e) (chain_same c index w w k.layer refl) (steps c index w w l x host start f now d e k refl put written)
 
 -- ---- the end
 

@@ -41,6 +41,12 @@ pub fn layers_are_written()
         → target_kept next ≡ target_kept w → IsPut d (place_kept w) (Some now) e → FileWritten l f now → KnowsWrite (with_layer_at c index next) index next l x host start now e }
 {}
 
+/// A law: so is a step that changes the layer's file alone and leaves the layer in memory as it was. The chain stays the same, too.
+pub fn files_are_written()
+    ensures { (c : Chain) (index : ℕ) (w : Layer) (l : Laying) (x : VolumeRecord) (host : ℕ) (start : Folder) (f now : File) (d e : Content) → KnowsWrite c index w l x host start f d
+        → IsPut d (place_kept w) (Some now) e → FileWritten l f now → KnowsWrite c index w l x host start now e }
+{}
+
 /// A law: once the layer knows its file, in which nothing is unsynced, and the volume itself holds the part on each outcome of
 /// it, the part is on the medium and the chain knows the image.
 pub fn writes_end()

@@ -3,4 +3,6 @@
 
 mod laws;
 
-pub use laws::{layers_are_written, lower_volumes_stay_known, writes_begin, writes_end};
+pub use laws::{
+    files_are_written, layers_are_written, lower_volumes_stay_known, writes_begin, writes_end,
+};

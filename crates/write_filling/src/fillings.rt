@@ -1,5 +1,5 @@
 // The clusters of a part that get a place are written whole, one after the other.
-ghost use Rattle.std.specs.Prelude.{◌≡◌, ◌+◌, ◌<◌, ◌≤◌, length};
+ghost use Rattle.std.specs.Prelude.{◌≡◌, ◌+◌, ◌^◌, ◌<◌, ◌≤◌, length};
 ghost use Rattle.shared_disk.specs.Calls.{IsPiece, Told};
 ghost use Rattle.shared_disk.specs.Step.{EndsOnlyBy, IsDiskRefusal, StepCounts};
 ghost use Rattle.write_planning.specs.Plan.{span_of};
@@ -25,7 +25,7 @@ pub struct Fillings {
     placed: Placed,
     done: usize,
     stage: Stage,
-    ghost low: { index < 64 },
+    ghost low: { index < 2 ^ 63 },
     ghost within: { done + under_way stage ≤ count_of (span_of (plan_of placed)) },
 }
 
@@ -35,9 +35,9 @@ impl Fillings {
     ghost use Rattle.write_filling.specs.Left.{Falls};
 
     /// The filling of what was placed for a part, which begins with the byte `at` of the volume. The volume has this index on
-    /// the chain's path, at most 63.
+    /// the chain's path, below 2^63.
     pub fn begin(volume: Id, index: usize, at: u64, placed: Placed) -> Fillings
-        requires { index < 64 }
+        requires { index < 2 ^ 63 }
         ensures { IsBegun volume index at placed result }
     {
         Fillings {

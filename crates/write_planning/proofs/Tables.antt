@@ -105,6 +105,26 @@ each_given p m lt = go (cases_lt m (tables_of p))
         let at = counted_at (lacks_place p) (count_of (span_of p)) (m - tables_of p) (omega (arith, le, lt)) in
         inr (at.0, at.1, lacking_new p at.0 m at.2 (omega (arith, at.3, le)))
 
+one_index : (n m : ℕ) → Some n ≡ Some m → n ≡ m
+one_index n m is = cc
+
+-- each sector makes one table at the most
+pub tables_on_sectors : (p : WritePlan) → tables_of p ≤ sectors_of (span_of p)
+tables_on_sectors p = go (cases_lt 1 (tables_of p)) (cases_lt 1 (sectors_of (span_of p)))
+  where
+    sector_with : (m : ℕ) → m < tables_of p → (sector : ℕ) × (sector < sectors_of (span_of p)) × (table_with p sector ≡ Some m)
+    sector_with m lt = let at = counted_at (lacks_table p) (count_of (span_of p)) m lt in table_sector p at.0 m at.1 at.2 at.3
+
+    go : (1 < tables_of p) ⊎ (tables_of p ≤ 1) → (1 < sectors_of (span_of p)) ⊎ (sectors_of (span_of p) ≤ 1) → tables_of p ≤ sectors_of (span_of p)
+    go (inr le) _ = omega (arith, le)
+    go (inl lt) (inl more) = let few = tables_few p in omega (arith, few, more)
+    go (inl lt) (inr one) =
+        let first = sector_with 0 (omega (arith, lt)) in
+        let second = sector_with 1 lt in
+        let same : first.0 ≡ second.0 = omega (arith, first.1, second.1, one) in
+        let both = one_index 0 1 (sym first.2 ∙ ap (table_with p) same ∙ second.2) in
+        absurd (omega (arith, both))
+
 -- ---- tables are made in time
 
 -- the cluster has its table where the first of its sector has

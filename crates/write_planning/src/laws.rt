@@ -34,6 +34,12 @@ pub fn sectors_part_the_clusters()
     ensures group { (s : Span) (sector j : ℕ) → start_in s sector ≤ j → j < end_in s sector → (first_of s + j) / 64 ≡ group_in s sector }
 {}
 
+/// A part meets one cluster at least and 17 at the most, whose entries stand in two sectors at the most and in no more than there
+/// are clusters.
+pub fn parts_meet_few_sectors()
+    ensures { (s : Span) → (1 ≤ count_of s) × (count_of s ≤ 17) × (1 ≤ sectors_of s) × (sectors_of s ≤ 2) × (sectors_of s ≤ count_of s) }
+{}
+
 /// Where the sectors are linked one after the other, the L2 table of each is there or is made with it: one that the layer
 /// hasn't is made with this sector or with an earlier one, and none is made that the layer has.
 pub fn tables_are_made_in_time()

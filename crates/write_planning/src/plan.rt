@@ -27,6 +27,7 @@ pub struct WritePlan {
 }
 
 impl WritePlan {
+    ghost use Rattle.write_planning.specs.Linked.{sectors_of};
     ghost use Rattle.write_planning.specs.Plan.{found_at, lacks_place, lacks_table, looked_up, places_below, span_of, tables_below, tables_of, target_at, wanted_of};
     ghost use Rattle.write_planning.specs.Span.{count_of, first_of};
 
@@ -145,10 +146,12 @@ impl WritePlan {
         count
     }
 
-    /// How many clusters of the file the write wants, those of new L2 tables included.
+    /// How many clusters of the file the write wants, those of new L2 tables included: one for each that the part meets at the
+    /// most, and a table for each of their sectors of entries.
     pub fn wanted(&self) -> u8
         ensures value { result ≡ wanted_of self.now }
         ensures few { result ≤ 19 }
+        ensures met { result ≤ count_of (span_of self.now) + sectors_of (span_of self.now) }
     {
         let count = self.span.count();
         self.tables_below(count) + self.places_below(count)

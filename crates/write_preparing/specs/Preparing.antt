@@ -34,6 +34,7 @@ use Rattle.layer_placing.specs.declared.stage.Stage.TheVariants as stages
 use Rattle.chain_laws.specs.Laid.{Laying}
 use Rattle.chain_laws.specs.Written.{FileWritten}
 use Rattle.part_laws.specs.Steps.{AreLayers}
+use Rattle.write_planning.specs.Linked.{sectors_of}
 use Rattle.write_planning.specs.Plan.{Tells, found_at, looked_up, span_of, wanted_of}
 use Rattle.write_planning.specs.Span.{at_of, count_of, first_of, length_of, width_of}
 use Rattle.write_planning.specs.declared.plan.WritePlan.{WritePlan}
@@ -68,16 +69,17 @@ span_at (Clearing p c) = span_of p
 span_at (Placing t) = span_of t.plan
 span_at (InPlace p s) = span_of (places.plan_of s)
 
--- what is taken takes so many steps at the most, and the writing over data behind it 17
-abbrev pub taking_left : ℕ → ℕ
-taking_left pieces = 18 + 19 * (7 + pieces)
+-- The taking of clusters takes so many steps at the most, with the writing over data behind it: one for each cluster that the
+-- part meets, and a table for each of their sectors of entries, are taken.
+abbrev pub taking_left : Span → ℕ → ℕ
+taking_left s pieces = 1 + count_of s + (count_of s + sectors_of s) * (7 + pieces)
 
 -- how many more steps it takes at the most, where a cluster has so many pieces of 65,536 bytes
 abbrev pub stage_left : ℕ → Stage → ℕ
-stage_left pieces (Surveying s) = survey_left s + 5 + taking_left pieces
-stage_left pieces (Asking a) = 5 + taking_left pieces
-stage_left pieces (Clearing p c) = clearing_left c + 1 + taking_left pieces
-stage_left pieces (Placing t) = placing.placing_left pieces t.work + 17
+stage_left pieces (Surveying s) = survey_left s + 5 + taking_left (span_of (survey.plan_of s)) pieces
+stage_left pieces (Asking a) = 5 + taking_left (span_of a.plan) pieces
+stage_left pieces (Clearing p c) = clearing_left c + 1 + taking_left (span_of p) pieces
+stage_left pieces (Placing t) = placing.placing_left pieces t.work + count_of (span_of t.plan)
 stage_left pieces (InPlace p s) = places.places_left s
 
 -- the part stays the same
@@ -103,7 +105,6 @@ pub record IsFirst (p : WritePlan) (clusters : List ℕ) (placed : Placed) (s : 
   pub plan : plan_of placed ≡ p
   pub clusters_are : clusters_of placed ≡ clusters
   pub begun : places.IsBegun p s
-  pub few : count_of (span_of p) ≤ 17
 
 abbrev pub WritesFirst : WritePlan → List ℕ → Stage → Type 0
 WritesFirst p clusters (InPlace placed s) = IsFirst p clusters placed s
@@ -111,7 +112,7 @@ WritesFirst p clusters _ = ⊥
 
 -- clusters are taken where some are wanted
 abbrev pub TakesNext : WritePlan → Stage → Type 0
-TakesNext p (Placing t) = (t.plan ≡ p) × (wanted_of p ≤ 19) × placing.IsBegun (wanted_of p) t.work
+TakesNext p (Placing t) = (t.plan ≡ p) × (wanted_of p ≤ count_of (span_of p) + sectors_of (span_of p)) × placing.IsBegun (wanted_of p) t.work
 TakesNext p stage = (wanted_of p ≡ 0) × WritesFirst p [] stage
 
 -- want of room comes where it is asked for, and where clusters are chosen
@@ -255,6 +256,18 @@ StagePlain stage w = Unit {0}
 abbrev pub KeepsPlain : Stage → Layer → Layer → StageTurn → Type 0
 KeepsPlain stage w next turn = StagePlain stage w → MatchTurn turn (λ s. StagePlain s next) (λ _. IsPlain next) (λ _ _. Unit {0})
 
+-- ---- room was asked for
+
+-- the header is cleared next, for the same plan
+abbrev pub ClearsNext : WritePlan → Stage → Type 0
+ClearsNext p (Clearing q c) = (q ≡ p) × (heading.stage_of c ≡ Begun)
+ClearsNext p _ = ⊥
+
+-- where room was asked for and is there, the header is cleared next
+abbrev pub GoesBehind : Stage → StageTurn → Type 0
+GoesBehind (Asking a) turn = MatchTurn turn (ClearsNext a.plan) (λ _. ⊥) (λ _ _. Unit {0})
+GoesBehind _ turn = Unit {0}
+
 -- ---- in public words
 
 abbrev pub stage_of : Preparing → Stage
@@ -286,10 +299,13 @@ IsPlainIn p w = StagePlain p.stage w
 abbrev pub StaysPlain : Preparing → Layer → Layer → PreparingTurn → Type 0
 StaysPlain p w next turn = KeepsPlain p.stage w next (stage_turn turn)
 
+abbrev pub GoesOnWithRoom : Preparing → PreparingTurn → Type 0
+GoesOnWithRoom p turn = GoesBehind p.stage (stage_turn turn)
+
 -- a preparing that was begun
 pub record IsBegun (s : Span) (p : Preparing) : Type 0 where
   pub span : span_in p ≡ s
-  pub left : (pieces : ℕ) → preparing_left pieces p ≡ 2 * count_of s + 5 + taking_left pieces
+  pub left : (pieces : ℕ) → preparing_left pieces p ≡ 2 * count_of s + 5 + taking_left s pieces
   pub early : IsEarly p.stage
   pub plain : (w : Layer) → IsPlainIn p w
   pub knows : (w : Layer) (l : Laying) (x : VolumeRecord) (host : ℕ) (f : File) → IsOf s w l x → IsQuiet w host f → width_of s ≡ cluster_size (seen_tables w host f) → Knows p w l x host f

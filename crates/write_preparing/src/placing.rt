@@ -23,7 +23,6 @@ fn written_first(placed: Placed) -> Stage
     ensures { WritesFirst (plan_of placed) (clusters_of placed) result }
 {
     let plan = placed.plan();
-    let _count = plan.span().count();
     let writing = PlaceWriting::begin(plan);
     Stage::InPlace(placed, writing)
 }
