@@ -1,5 +1,5 @@
 -- A step that is made with a layer of a chain.
-use Rattle.std.proofs.Common.{◌≡◌, ℕ, List, slice_get, Some, subst}
+use Rattle.std.proofs.Common.{◌≡◌, ℕ, List, slice_get, Some, refl, subst}
 use Rattle.shared_disk.specs.Content.{Content, File}
 use Rattle.volume_meta.specs.declared.record.VolumeRecord.{VolumeRecord}
 use Rattle.qcow_layer.specs.declared.layer.Layer.{Layer}
@@ -39,6 +39,10 @@ module _ (work : Preparing) (c : Chain) (index : ℕ) (y next : Layer) (host fau
       record {
         after = next;
         now = left.now;
+        lent = refl;
+        same = same;
+        put = left.put;
+        written = left.written;
         write = steps c index y next l x host start f left.now d e knows same.target left.put left.written;
         early = left.early;
         turns = turned turn left.now left.after;

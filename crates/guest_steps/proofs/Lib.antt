@@ -1,1 +1,3 @@
 pub mod Lends
+pub mod Links
+pub mod Rooms

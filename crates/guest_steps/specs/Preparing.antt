@@ -2,14 +2,16 @@
 use Rattle.std.specs.Prelude.{◌≡◌, ℕ, List, slice_get, Some}
 use Rattle.sd_names.specs.Turn.{MatchTurn}
 use Rattle.sd_names.specs.declared.refusal.Refusal.{Refusal}
-use Rattle.shared_disk.specs.Calls.{IsSame}
+use Rattle.shared_disk.specs.Calls.{IsPut, IsSame}
 use Rattle.shared_disk.specs.Content.{Content, File}
 use Rattle.shared_disk.specs.Step.{NearsEnd}
 use Rattle.volume_meta.specs.declared.record.VolumeRecord.{VolumeRecord}
+use Rattle.qcow_layer.specs.Opening.{place_kept}
 use Rattle.qcow_layer.specs.declared.layer.Layer.{Layer}
 use Rattle.layer_placing.specs.Stages.{pieces_of}
 use Rattle.chain_model.specs.Folder.{Folder}
 use Rattle.chain_laws.specs.Laid.{Laying}
+use Rattle.chain_laws.specs.Written.{FileWritten}
 use Rattle.volume_chain.specs.Chain.{open_in}
 use Rattle.volume_chain.specs.LendingChain.{with_layer_at}
 use Rattle.volume_chain.specs.declared.chain.Chain.{Chain}
@@ -27,11 +29,15 @@ pub record IsLent (c next : Chain) (index : ℕ) : Type 0 where
   pub is : next ≡ with_layer_at c index after
   pub same : IsSameLayer before after
 
--- What a step leaves, a refused one too: the write goes on with the chain as it is now, and each outcome of the folder comes from
--- one of the begin.
+-- What a step leaves, a refused one too: only the layer's file is changed, the write goes on with the chain as it is now, and each
+-- outcome of the folder comes from one of the begin.
 pub record PreparesChain (work : Preparing) (c next : Chain) (index : ℕ) (w : Layer) (l : Laying) (x : VolumeRecord) (host faults : ℕ) (start : Folder) (turn : PreparingTurn) (f : File) (d e : Content) : Type 0 where
   pub after : Layer
   pub now : File
+  pub lent : next ≡ with_layer_at c index after
+  pub same : IsSameLayer w after
+  pub put : IsPut d (place_kept w) (Some now) e
+  pub written : FileWritten l f now
   pub write : KnowsWrite next index after l x host start now e
   pub early : IsEarly (preparing.stage_of work) → IsSame d e
   pub turns : MatchTurn turn

@@ -1,0 +1,9 @@
+pub mod Quiet
+pub mod Standing
+pub mod Ready
+pub mod Prepares
+pub mod Fills
+pub mod Links
+pub mod Raws
+pub mod Known
+pub mod Dispatch

@@ -1,0 +1,4 @@
+pub mod Way
+pub mod Knowing
+pub mod Writing
+pub mod Guest
