@@ -9,13 +9,14 @@ use Rattle.shared_disk.proofs.AtPlace.{one_file}
 use Rattle.shared_disk.proofs.Toolkit.{sees_settled}
 use Rattle.lease_area.specs.Hold.{leases_of}
 use Rattle.lease_area.specs.Noted.{nothing_seen}
+use Rattle.lease_area.specs.Record.{IsImageSlot}
 use Rattle.lease_area.specs.Scan.{Looks}
 use Rattle.lease_area.specs.WholeScan.{HasLease, IsEmptySector, IsLeast, IsReadIn, IsScan, sector_read}
 use Rattle.lease_area.specs.declared.scanned.Scanned.{Scanned}
 use Rattle.lease_area.specs.declared.sector.LeaseRecord.{LeaseRecord}
 use Rattle.lease_area.proofs.WholeScan.{all_read, empty_least, found_least}
 use Rattle.image_creating.specs.Knowing.{IsReadSince}
-use Rattle.image_creating.specs.Sectors.{IsArea, IsEmpty, IsFullFile, IsLeastEmptyIn, IsNamedIn, IsSectorKept, IsUnnamedIn, KeepsSectors}
+use Rattle.image_creating.specs.Sectors.{IsArea, IsEmpty, IsFullFile, IsLeastEmptyIn, IsNamedIn, IsSectorKept, IsUnnamedIn, KeepsSectors, Names}
 use Rattle.image_creating.proofs.Sectors.{empty_back, empty_kept, keeps_both, keeps_itself, names_back, names_kept}
 
 -- ---- one more
@@ -162,6 +163,16 @@ module _ (host : ℕ) (sd image : Id) (last : Scanned) (f : File) (read : IsRead
   one_found a is =
       let some = subst (λ (o : Option (ℕ × LeaseRecord)). IsLeast HasFound 1024 o) is found_is in
       (some.0, record { low = some.1; high = some.2 }, names_kept image (bytes_at some.0) (f.stable some.0) (one_kept some.0 some.2) (a.1, some.3.lease, some.3.image_is))
+
+  -- the sector that was found names the image yet, and when it was read it had this lease
+  pub found_at : (a : ℕ × LeaseRecord) → last.found ≡ Some a → IsImageSlot a.0 × Names image (f.stable a.0) × (a.1.image ≡ image)
+  found_at a is =
+      let some = subst (λ (o : Option (ℕ × LeaseRecord)). IsLeast HasFound 1024 o) is found_is in
+      let here : some.0 ≡ a.0 = sym some.3.number in (
+        subst (λ (k : ℕ). IsImageSlot k) here (record { low = some.1; high = some.2 }),
+        subst (λ (k : ℕ). Names image (f.stable k)) here (names_kept image (bytes_at some.0) (f.stable some.0) (one_kept some.0 some.2) (a.1, some.3.lease, some.3.image_is)),
+        some.3.image_is,
+      )
 
   pub none_empty : last.empty ≡ None → IsFullFile f
   none_empty is k slot empty =

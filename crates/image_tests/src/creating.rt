@@ -12,9 +12,9 @@ use shared_disk::{Exchanged, SharedDisk};
 use std::alloc::Global;
 use std::test::Fail;
 
-const TASK: Id = Id([0, 0, 0, 0, 0, 0, 0x40, 0, 0x80, 0, 0, 0, 0, 0, 0, 9]);
+pub const TASK: Id = Id([0, 0, 0, 0, 0, 0, 0x40, 0, 0x80, 0, 0, 0, 0, 0, 0, 9]);
 
-const LEASES: Place = Place {
+pub const LEASES: Place = Place {
     dir: Dir::DomMd(SD),
     name: Name::Leases,
 };
@@ -31,12 +31,12 @@ const OPEN_TEXT: &[u8] =
 const DONE_TEXT: &[u8] = b"STATE=DONE\nVERB=create\nEOF\n";
 
 // The first 32 bytes of the image's sector: held for the task by host 1, and held by nobody, at version 1.
-const HELD: [u8; 32] = [
+pub const HELD: [u8; 32] = [
     b'L', b'E', b'A', b'S', 2, 1, 0, 0, 0, 0, 0, 0, 0, 0, 0, 1, 0, 0, 0, 0, 0, 0, 0x40, 0, 0x80, 0,
     0, 0, 0, 0, 0, 3,
 ];
 
-const FREE: [u8; 32] = [
+pub const FREE: [u8; 32] = [
     b'L', b'E', b'A', b'S', 0, 0, 0, 0, 0, 0, 0, 0, 0, 0, 0, 1, 0, 0, 0, 0, 0, 0, 0x40, 0, 0x80, 0,
     0, 0, 0, 0, 0, 3,
 ];
@@ -46,7 +46,7 @@ const REST: u64 = 5;
 
 // A domain with its folders and a leases file of empty sectors, which settles by the pick and fails in one call of those that
 // follow, from 0.
-fn domain_with(
+pub fn domain_with(
     alloc: Global,
     host: HostId,
     pick: Pick,
@@ -66,7 +66,7 @@ fn domain_with(
 }
 
 // Creates the image, or so many steps of it.
-fn create(alloc: Global, disk: &mut Memory, host: HostId, format: Format, most: u16) -> End {
+pub fn create(alloc: Global, disk: &mut Memory, host: HostId, format: Format, most: u16) -> End {
     let Ok(image) = new_image(alloc, format, version_for(format)) else {
         return End::Other;
     };
@@ -87,14 +87,14 @@ fn create(alloc: Global, disk: &mut Memory, host: HostId, format: Format, most: 
 
 // How many calls a creation makes: the folder, eight reads of sectors, five for each of the task's texts, two exchanges, and
 // those of the files.
-fn calls_of(format: Format) -> u16
+pub fn calls_of(format: Format) -> u16
     ensures { result ≤ 32 }
 {
     21 + calls_for(format)
 }
 
 // Whether the image's sector, the first one, begins with these bytes.
-fn sector_is(disk: &Memory, bytes: &[u8]) -> bool {
+pub fn sector_is(disk: &Memory, bytes: &[u8]) -> bool {
     holds_at(disk, LEASES, 512, bytes)
 }
 
@@ -203,7 +203,7 @@ fn refused_for(
 }
 
 // A sector with these bytes, and zeros behind them, but for the last byte of its image.
-fn sector_with(front: &[u8; 32], last: u8) -> [u8; 512] {
+pub fn sector_with(front: &[u8; 32], last: u8) -> [u8; 512] {
     let mut sector = [0; 512];
     sector[..32].copy_from_slice(front);
     sector[31] = last;

@@ -1,0 +1,11 @@
+pub mod Spelled
+pub mod Standing
+pub mod Apart
+pub mod Turns
+pub mod ScanStep
+pub mod TakeStep
+pub mod TextSteps
+pub mod FileSteps
+pub mod Others
+pub mod Unsynced
+pub mod Begun

@@ -1,0 +1,12 @@
+pub mod Texts
+pub mod RemovalTask
+pub mod Sectors
+pub mod Stage
+pub mod Deleting
+pub mod Falls
+pub mod Standing
+pub mod Knowing
+pub mod Calls
+pub mod Inner
+pub mod Steps
+pub mod Others
