@@ -1,0 +1,16 @@
+pub mod Told
+pub mod Lists
+pub mod Falls
+pub mod Frame
+pub mod Places
+pub mod Removing
+pub mod Emptying
+pub mod Marked
+pub mod Writing
+pub mod Owned
+pub mod Machine
+pub mod Facts
+pub mod Begun
+pub mod Clears
+pub mod Writes
+pub mod Stable

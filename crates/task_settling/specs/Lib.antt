@@ -1,0 +1,7 @@
+pub mod Stage
+pub mod Settling
+pub mod Falls
+pub mod Inner
+pub mod Knowing
+pub mod Steps
+pub mod Laws
