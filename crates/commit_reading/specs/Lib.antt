@@ -1,0 +1,4 @@
+pub mod Knowing
+pub mod Left
+pub mod Pieces
+pub mod Reading
