@@ -14,3 +14,4 @@ pub mod Begun
 pub mod Clears
 pub mod Writes
 pub mod Stable
+pub mod Turns

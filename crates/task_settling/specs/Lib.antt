@@ -5,3 +5,4 @@ pub mod Inner
 pub mod Knowing
 pub mod Steps
 pub mod Laws
+pub mod Turns

@@ -1,5 +1,6 @@
 // Laws of what a host that settles a task knows: contracts of functions that do next to nothing.
 ghost use Rattle.task_settling.specs.Laws.{BegunKnow, DownsKeepSettlings, OthersKeepSettlings};
+ghost use Rattle.task_settling.specs.Turns.{SettlingsTurn};
 
 use task_files::task_knowledge_survives_others;
 
@@ -17,3 +18,8 @@ pub fn settlings_keep_knowing()
 {
     task_knowledge_survives_others();
 }
+
+/// What a step of a settling has done is a turn of the host's machine that fits its answer, in `spm-start` and in `recover`.
+pub fn settlings_are_turns()
+    ensures { SettlingsTurn }
+{}

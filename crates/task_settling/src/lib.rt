@@ -5,5 +5,5 @@ mod ending;
 mod laws;
 mod settling;
 
-pub use laws::{a_begun_settling_knows_its_pool, settlings_keep_knowing};
+pub use laws::{a_begun_settling_knows_its_pool, settlings_are_turns, settlings_keep_knowing};
 pub use settling::{Stage, TaskSettling};
