@@ -4,5 +4,6 @@ pub mod Falls
 pub mod Standing
 pub mod Knowing
 pub mod Inner
+pub mod Calls
 pub mod Steps
 pub mod Others

@@ -36,6 +36,7 @@ pub struct ImageClearing {
 
 impl ImageClearing {
     ghost use Rattle.std.specs.Prelude.{ℕ};
+    ghost use Rattle.image_clearing.specs.Calls.{CallOf};
     ghost use Rattle.image_clearing.specs.Clearing.{CallsMade, IsBegun, MayRefuse, stage_of};
     ghost use Rattle.image_clearing.specs.Falls.{Nears};
     ghost use Rattle.image_clearing.specs.Knowing.{Knows};
@@ -63,6 +64,7 @@ impl ImageClearing {
         ensures counted { CallsMade (stage_of self) (D.calls disk.old) (D.calls disk.new) }
         ensures refusals { EndsOnlyBy (MayRefuse (stage_of self)) result }
         ensures falls { Nears self result }
+        ensures call { Told (D.content disk.old) (D.content disk.new) (CallOf self host (D.faults disk.new) result) }
         ensures content { Told (D.content disk.old) (D.content disk.new) (λ d e. Knows self d → ClearSteps self (D.faults disk.new) result d e) }
     {
         let ImageClearing { sd, image, stage } = self;

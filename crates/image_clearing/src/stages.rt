@@ -6,6 +6,7 @@ ghost use Rattle.lease_area.specs.Hold.{IsGivingRefusal};
 ghost use Rattle.lease_area.specs.Record.{IsImageSlot};
 ghost use Rattle.lease_area.specs.Scan.{steps_made};
 ghost use Rattle.lease_area.specs.declared.sector.Kind.TheVariants.{Task};
+ghost use Rattle.image_clearing.specs.Calls.{Empties, Removes};
 ghost use Rattle.image_clearing.specs.Clearing.{ClearTurn, IsAt, MayBeHeld};
 ghost use Rattle.image_clearing.specs.Falls.{NearsIn};
 ghost use Rattle.image_clearing.specs.Inner.{EmptiesSector, FoundBy, IsUncounted, RemovesFiles, ScansOn, SeenBy};
@@ -97,6 +98,7 @@ pub(crate) fn remove_on<D: SharedDisk>(
     ensures counted { D.calls disk.new ≡ min (D.calls disk.old + 1) (2 ^ 64 - 1) }
     ensures refusals { EndsOnlyBy IsDiskRefusal result }
     ensures falls { NearsIn (stage.Removing slot lease removing) sd image result }
+    ensures call { Told (D.content disk.old) (D.content disk.new) (Removes sd image slot lease removing (D.faults disk.new) result) }
     ensures steps { Told (D.content disk.old) (D.content disk.new) (RemovesFiles sd image slot lease removing (D.faults disk.new) result) }
 {
     match removing.step(host, disk) {
@@ -120,6 +122,7 @@ pub(crate) fn empty_on<D: SharedDisk>(
     ensures counted { D.calls disk.new ≡ min (D.calls disk.old + 1) (2 ^ 64 - 1) }
     ensures refusals { EndsOnlyBy IsGivingRefusal result }
     ensures falls { (image : Id) → NearsIn (stage.Emptying slot lease) sd image result }
+    ensures call { Told (D.content disk.old) (D.content disk.new) (Empties sd slot lease host (D.faults disk.new) result) }
     ensures steps { Told (D.content disk.old) (D.content disk.new) (EmptiesSector sd slot lease (D.faults disk.new) result) }
 {
     match empty_task(host, sd, slot, lease, disk) {

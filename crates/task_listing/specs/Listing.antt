@@ -11,7 +11,7 @@ use Rattle.sd_names.specs.declared.place.Dir.TheVariants as dir
 use Rattle.sd_names.specs.declared.place.Name.{Name}
 use Rattle.sd_names.specs.declared.place.Name.TheVariants as name
 use Rattle.sd_names.specs.declared.refusal.Refusal.{Refusal}
-use Rattle.sd_names.specs.declared.refusal.Refusal.TheVariants.{DiskFault, OutOfMemory, TaskCorrupt}
+use Rattle.sd_names.specs.declared.refusal.Refusal.TheVariants.{DiskFault, OutOfMemory}
 use Rattle.sd_names.specs.declared.task_state.TaskState.{TaskState}
 use Rattle.sd_names.specs.declared.task_state.TaskState.TheVariants as state
 use Rattle.sd_names.specs.declared.turn.Turn.{Turn}
@@ -19,6 +19,7 @@ use Rattle.shared_disk.specs.Calls.{IsSame}
 use Rattle.shared_disk.specs.Content.{Content}
 use Rattle.shared_disk.specs.NameCalls.{IsNameAbove, ShowsName}
 use Rattle.shared_disk.specs.Step.{IsDiskRefusal}
+use Rattle.task_files.specs.Read.{IsReadRefusal}
 use Rattle.task_store.specs.declared.task.Task.{Task}
 use Rattle.chain_model.specs.Opening.{id_cmp}
 use Rattle.pool_model.specs.Pool.{Pool}
@@ -87,16 +88,20 @@ HasNoted l t x turn = MatchTurn turn (IsNoted l t x) (λ _. ⊥) (λ _ refusal. 
 
 -- ---- on every disk
 
--- of the disk, of a task's text, and want of memory
-abbrev pub IsListingRefusal : Refusal → Type 0
-IsListingRefusal (TaskCorrupt t) = Unit {0}
-IsListingRefusal OutOfMemory = Unit {0}
-IsListingRefusal refusal = IsDiskRefusal refusal
+-- While names are asked for, a refusal is the disk's; while a task's file is read, it is of that task's text too, or for want of memory.
+abbrev pub MayRefuse : Stage → Refusal → Type 0
+MayRefuse (Asking after) refusal = IsDiskRefusal refusal
+MayRefuse (Reading t) refusal = IsReadRefusal t refusal
+
+-- the name is no task's
+abbrev pub IsNoTask : Name → Type 0
+IsNoTask (name.Task t) = ⊥
+IsNoTask n = Unit {0}
 
 -- the names rise: of each name that is met a task's is read, and the next one is above it
 abbrev pub IsNext : Stage → Stage → Type 0
 IsNext (Asking after) (Asking None) = ⊥
-IsNext (Asking after) (Asking (Some n)) = IsNameAbove after n
+IsNext (Asking after) (Asking (Some n)) = IsNameAbove after n × IsNoTask n
 IsNext (Asking after) (Reading t) = IsNameAbove after (name.Task t)
 IsNext (Reading t) (Asking after) = after ≡ Some (name.Task t)
 IsNext (Reading t) (Reading u) = ⊥

@@ -4,7 +4,7 @@ ghost use Rattle.sd_names.specs.Turn.{MatchTurn};
 ghost use Rattle.shared_disk.specs.Calls.{Told};
 ghost use Rattle.shared_disk.specs.Step.{EndsOnlyBy, StepCounts};
 ghost use Rattle.pool_model.specs.Pool.{Pool};
-ghost use Rattle.task_listing.specs.Listing.{HasNoted, IsAt, IsBegun, IsListingRefusal, KnowsListing, Lists, Rises, noted, stage_for};
+ghost use Rattle.task_listing.specs.Listing.{HasNoted, IsAt, IsBegun, KnowsListing, Lists, MayRefuse, Rises, noted, stage_for};
 
 use sd_names::{Dir, HostId, Id, Name, NoMemory, Refusal, TaskState, Tasks, Turn};
 use shared_disk::{SharedDisk, refusal_for};
@@ -64,7 +64,7 @@ impl TaskListing {
     ) -> Turn<TaskListing, ListedTasks, ()>
         ensures counts { StepCounts (D.faults disk.old) (D.faults disk.new) (D.calls disk.old) (D.calls disk.new) result }
         ensures counted { D.calls disk.new ≡ min (D.calls disk.old + 1) (2 ^ 64 - 1) }
-        ensures refusals { EndsOnlyBy IsListingRefusal result }
+        ensures refusals { EndsOnlyBy (MayRefuse self.stage) result }
         ensures rises { Rises self.stage result }
         ensures content { Told (D.content disk.old) (D.content disk.new) (Lists self host (D.faults disk.new) result) }
     {
@@ -102,7 +102,7 @@ impl TaskListing {
         requires stage { self.stage ≡ Stage.Asking after }
         ensures counts { StepCounts (D.faults disk.old) (D.faults disk.new) (D.calls disk.old) (D.calls disk.new) result }
         ensures counted { D.calls disk.new ≡ min (D.calls disk.old + 1) (2 ^ 64 - 1) }
-        ensures refusals { EndsOnlyBy IsListingRefusal result }
+        ensures refusals { EndsOnlyBy (MayRefuse (Stage.Asking after)) result }
         ensures rises { Rises (Stage.Asking after) result }
         ensures content { Told (D.content disk.old) (D.content disk.new) (Lists self host (D.faults disk.new) result) }
     {
@@ -132,7 +132,7 @@ impl TaskListing {
         requires stage { self.stage ≡ Stage.Reading task }
         ensures counts { StepCounts (D.faults disk.old) (D.faults disk.new) (D.calls disk.old) (D.calls disk.new) result }
         ensures counted { D.calls disk.new ≡ min (D.calls disk.old + 1) (2 ^ 64 - 1) }
-        ensures refusals { EndsOnlyBy IsListingRefusal result }
+        ensures refusals { EndsOnlyBy (MayRefuse (Stage.Reading task)) result }
         ensures rises { Rises (Stage.Reading task) result }
         ensures content { Told (D.content disk.old) (D.content disk.new) (Lists self host (D.faults disk.new) result) }
     {
