@@ -7,3 +7,4 @@ pub mod Links
 pub mod Raws
 pub mod Known
 pub mod Dispatch
+pub mod Short
