@@ -5,7 +5,7 @@ ghost use Rattle.shared_disk.specs.Step.{EndsOnlyBy, StepCounts};
 ghost use Rattle.volume_chain.specs.Chain.{open_in};
 ghost use Rattle.volume_chain.specs.Layers.{IsLayerAt};
 ghost use Rattle.write_planning.specs.Span.{at_of, length_of};
-ghost use Rattle.write_preparing.specs.Preparing.{span_in};
+ghost use Rattle.write_preparing.specs.Preparing.{Plans, span_in};
 ghost use Rattle.guest_steps.specs.Preparing.{FallsAt, IsLent, IsStepRefusal, PreparesAt};
 
 use sd_names::{HostId, Turn};
@@ -31,6 +31,7 @@ pub fn prepare<D: SharedDisk>(
     ensures refusals { EndsOnlyBy (IsStepRefusal chain.old index) result }
     ensures chain { IsLent chain.old chain.new index }
     ensures falls { FallsAt work chain.old index result }
+    ensures plans { Plans work result }
     ensures content { Told (D.content disk.old) (D.content disk.new) (PreparesAt work chain.old chain.new index host (D.faults disk.new) part.now result) }
 {
     match work.step(host, chain.layer_mut(index), disk, part) {

@@ -7,4 +7,4 @@ pub mod Links
 pub mod Raws
 pub mod Known
 pub mod Dispatch
-pub mod Short
+pub mod Left

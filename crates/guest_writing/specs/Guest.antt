@@ -1,5 +1,5 @@
 -- A guest's write in public words: what it knows between its steps, and what each step leaves.
-use Rattle.std.specs.Prelude.{◌≡◌, ℕ, ◌*◌, List}
+use Rattle.std.specs.Prelude.{◌≡◌, ℕ, ◌*◌, ◌<◌, List}
 use Rattle.sd_names.specs.Turn.{MatchTurn}
 use Rattle.sd_names.specs.declared.id.Id.{Id}
 use Rattle.sd_names.specs.declared.refusal.Refusal.{Refusal}
@@ -14,6 +14,7 @@ use Rattle.volume_chain.specs.Chain.{dir_in, target_of}
 use Rattle.volume_chain.specs.declared.chain.Chain.{Chain}
 use Rattle.raw_writing.specs.Image.{IsPartOf}
 use Rattle.guest_writing.specs.Knowing.{IsWriteOf, KnowsStage, MayBeWritten}
+use Rattle.guest_writing.specs.Left.{begins_at, stage_left}
 use Rattle.guest_writing.specs.Way.{IsBehind, StageKeeps, StageOnWay, StageRefusal, StandsOpen}
 use Rattle.guest_writing.specs.Writing.{IsDone, IsRefused, Leaves}
 use Rattle.guest_writing.specs.declared.guest.GuestWrite.{GuestWrite}
@@ -50,6 +51,13 @@ IsGuestRefusal w c count refusal = StageRefusal w.stage c count refusal
 abbrev pub Falls : GuestWrite → Chain → GuestTurn → Type 0
 Falls w c turn = MatchTurn turn (λ next. IsBehind w.stage c next.stage) (λ _. Unit {0}) (λ _ _. Unit {0})
 
+-- how many steps are left at the most, with this chain, of a part of so many bytes
+abbrev pub guest_left : GuestWrite → Chain → ℕ → ℕ
+guest_left w c count = stage_left w.stage w.volume w.at c count
+
+abbrev pub Nears : GuestWrite → Chain → Chain → ℕ → GuestTurn → Type 0
+Nears w c next count turn = MatchTurn turn (λ more. guest_left more next count < guest_left w c count) (λ _. 0 < guest_left w c count) (λ _ _. 0 < guest_left w c count)
+
 -- ---- what is known
 
 -- What a write knows that began in the folder `start`, whose volumes were `old`, with this in the room.
@@ -63,6 +71,7 @@ pub record IsBegun (v : Id) (at : ℕ) (w : GuestWrite) : Type 0 where
   pub volume : volume_of w ≡ v
   pub from : at_of w ≡ at
   pub way : (c : Chain) (count : ℕ) → StandsOpen c v at count → IsOnWay w c count
+  pub left : (c : Chain) (count : ℕ) → guest_left w c count ≡ begins_at c v at count
   pub knows : (c : Chain) (l : Laying) (x : VolumeRecord) (host : ℕ) (room : List ℕ) (d : Content) → l.volume ≡ v → 512 * l.part.at ≡ at → IsPartOf l c x → MayBeWritten c host d → IsBelow l.records l.volume l.below
       → Reads l l.reads (volumes_in (dir_in (target_of c)) d) → Knows w c l x (volumes_in (dir_in (target_of c)) d) host (folder_of (dir_in (target_of c)) d) room d
 

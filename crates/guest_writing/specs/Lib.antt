@@ -1,5 +1,5 @@
 pub mod Way
 pub mod Knowing
 pub mod Writing
+pub mod Left
 pub mod Guest
-pub mod Short

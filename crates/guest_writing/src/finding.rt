@@ -1,6 +1,7 @@
 // The volume that is written is found on the path.
-ghost use Rattle.std.specs.Prelude.{length};
+ghost use Rattle.std.specs.Prelude.{◌<◌, length};
 ghost use Rattle.shared_disk.specs.Calls.{IsAligned, IsPiece};
+ghost use Rattle.guest_writing.specs.Left.{stage_left};
 ghost use Rattle.guest_writing.specs.Way.{IsBehind, StageOnWay, StandsOpen};
 ghost use Rattle.guest_writing.specs.Writing.{KnowsBehind};
 ghost use Rattle.guest_writing.specs.declared.stage.Stage.TheVariants.{Begun};
@@ -21,6 +22,7 @@ pub(crate) fn find(volume: Id, at: u64, chain: &Chain, part: &[u8]) -> Stage
     requires way { StandsOpen chain.now volume at (length part.now) }
     ensures way { StageOnWay result volume at chain.now (length part.now) }
     ensures behind { IsBehind Begun chain.now result }
+    ensures left { stage_left result volume at chain.now (length part.now) < stage_left Begun volume at chain.now (length part.now) }
     ensures knows { KnowsBehind Begun volume at chain.now part.now result }
 {
     let index = place_on(chain.path(), &volume);

@@ -2,6 +2,7 @@
 ghost use Rattle.std.specs.Prelude.{◌≡◌, ◌%◌, length};
 ghost use Rattle.shared_disk.specs.Calls.{IsAligned, IsPiece, Told};
 ghost use Rattle.shared_disk.specs.Step.{EndsOnlyBy, StepCounts};
+ghost use Rattle.guest_writing.specs.Left.{StageNears};
 ghost use Rattle.guest_writing.specs.Way.{KeepsWay, StageFalls, StageKeeps, StageOnWay, StageRefusal};
 ghost use Rattle.guest_writing.specs.Writing.{WritesIn};
 
@@ -32,6 +33,7 @@ fn step_stage<D: SharedDisk>(
     ensures chain { StageKeeps stage chain.old chain.new }
     ensures way { KeepsWay volume at chain.new (length part.now) result }
     ensures falls { StageFalls stage chain.old result }
+    ensures left { StageNears stage volume at chain.old chain.new (length part.now) result }
     ensures content { Told (D.content disk.old) (D.content disk.new) (WritesIn stage volume at chain.old chain.new host (D.faults disk.new) part.now room.old room.new result) }
 {
     match stage {
@@ -57,7 +59,7 @@ pub struct GuestWrite {
 }
 
 impl GuestWrite {
-    ghost use Rattle.guest_writing.specs.Guest.{Falls, GuestWrites, IsBegun, IsGuestRefusal, IsOnWay, IsWrittenChain, StaysOnWay};
+    ghost use Rattle.guest_writing.specs.Guest.{Falls, GuestWrites, IsBegun, IsGuestRefusal, IsOnWay, IsWrittenChain, Nears, StaysOnWay};
 
     /// The write of a part of a volume from the offset `at` on, in bytes and a multiple of 512.
     pub fn begin(volume: Id, at: u64) -> GuestWrite
@@ -91,6 +93,7 @@ impl GuestWrite {
         ensures chain { IsWrittenChain self chain.old chain.new }
         ensures way { StaysOnWay chain.new (length part.now) result }
         ensures falls { Falls self chain.old result }
+        ensures left { Nears self chain.old chain.new (length part.now) result }
         ensures content { Told (D.content disk.old) (D.content disk.new) (GuestWrites self chain.old chain.new host (D.faults disk.new) part.now room.old room.new result) }
     {
         let volume = self.volume;

@@ -1,5 +1,5 @@
 // Laws of guests' writes: contracts of functions that do nothing.
-ghost use Rattle.std.specs.Prelude.{◌≡◌, ◌+◌, ◌*◌, ◌/◌, ◌^◌, ◌≤◌, ℕ, List, length, Contains, Some};
+ghost use Rattle.std.specs.Prelude.{◌≡◌, ◌+◌, ◌^◌, ◌≤◌, ℕ, List, length, Contains, Some};
 ghost use Rattle.sd_names.specs.declared.id.Id.{Id};
 ghost use Rattle.shared_disk.specs.Content.{Content};
 ghost use Rattle.shared_disk.specs.WellFormed.{IsWellFormed};
@@ -13,25 +13,9 @@ ghost use Rattle.volume_chain.specs.Chain.{IsShaped, dir_in, open_in, path_in, r
 ghost use Rattle.volume_chain.specs.Knowing.{KnowsChain};
 ghost use Rattle.volume_chain.specs.declared.chain.Chain.{Chain};
 ghost use Rattle.raw_writing.specs.Image.{AreSettledBut};
-ghost use Rattle.qcow_layer.specs.Opening.{header_kept};
-ghost use Rattle.qcow_layer.specs.declared.layer.Layer.{Layer};
-ghost use Rattle.cluster_filling.specs.Left.{many};
-ghost use Rattle.layer_placing.specs.Stages.{pieces_of};
-ghost use Rattle.write_planning.specs.Span.{count_of, width_of};
-ghost use Rattle.write_preparing.specs.Preparing as prepared;
-ghost use Rattle.write_preparing.specs.Preparing.{preparing_left};
-ghost use Rattle.write_preparing.specs.declared.placed.Placed.{Placed};
-ghost use Rattle.write_preparing.specs.declared.preparing.Preparing.{Preparing};
-ghost use Rattle.write_filling.specs.Filling as filled;
-ghost use Rattle.write_filling.specs.Left.{fillings_left};
-ghost use Rattle.write_filling.specs.declared.fillings.Fillings.{Fillings};
-ghost use Rattle.write_linking.specs.Linking as linked;
-ghost use Rattle.write_linking.specs.Linking.{linking_left};
-ghost use Rattle.write_linking.specs.declared.linking.WriteLinking.{WriteLinking};
 ghost use Rattle.guest_laws.specs.Write.{KnowsOthers};
 ghost use Rattle.guest_writing.specs.Guest.{IsWrittenChain, Knows};
 ghost use Rattle.guest_writing.specs.Knowing.{AreWhole, MayBeWritten};
-ghost use Rattle.guest_writing.specs.Short.{clusters_read, span_for, stages_left};
 ghost use Rattle.guest_writing.specs.Way.{StandsOpen};
 ghost use Rattle.guest_writing.specs.declared.guest.GuestWrite.{GuestWrite as AnyWrite};
 
@@ -60,16 +44,4 @@ pub fn images_are_known()
         → AreSettledBut (dir_in (target_of c)) l.volume d }
     ensures comes { (w : AnyWrite) (c : Chain) (l : Laying) (x : VolumeRecord) (old : Volumes) (host : ℕ) (start : Folder) (room : List ℕ) (d : Content) → Knows w c l x old host start room d
         → ComesWritten l start (folder_of (dir_in (target_of c)) d) }
-{}
-
-/// A law: the bounds with which the stages of a write to a QCOW2 layer begin come together to at most 64 + t (32 + 4 p) steps, where
-/// the part meets t clusters of at most p pieces of 65,536 bytes, p at most 32, beside what is read below for new clusters
-/// (`bounds`). So a preparing, a filling and a linking of one span, in a layer and in one with clusters as large, take no more with
-/// the step before them (`begun`).
-pub fn stages_are_short()
-    ensures bounds { (c : Chain) (index : ℕ) (placed : Placed) (p : ℕ) → many (width_of (span_for placed) / 512) ≤ p → p ≤ 32
-        → stages_left c index placed p ≤ 64 + count_of (span_for placed) * (32 + 4 * p) + clusters_read c index placed (count_of (span_for placed)) 0 }
-    ensures begun { (c : Chain) (v : Id) (index at : ℕ) (w next : Layer) (placed : Placed) (q : Preparing) (f : Fillings) (k : WriteLinking) → prepared.IsBegun (span_for placed) q → filled.IsBegun v index at placed f → linked.IsBegun placed k
-        → 12 ≤ (header_kept w).cluster_bits → (header_kept w).cluster_bits ≤ 21 → (header_kept next).cluster_bits ≡ (header_kept w).cluster_bits → width_of (span_for placed) ≡ 2 ^ (header_kept w).cluster_bits
-        → 1 + preparing_left (pieces_of w) q + fillings_left f c + linking_left next k ≤ 64 + count_of (span_for placed) * (32 + 4 * pieces_of w) + clusters_read c index placed (count_of (span_for placed)) 0 }
 {}

@@ -7,6 +7,7 @@ ghost use Rattle.raw_writing.specs.Writing.{from_of};
 ghost use Rattle.volume_chain.specs.Chain.{open_in};
 ghost use Rattle.volume_chain.specs.Layers.{IsLayerAt};
 ghost use Rattle.volume_chain.specs.declared.chain.Chain.{Chain as AnyChain};
+ghost use Rattle.guest_writing.specs.Left.{StageNears};
 ghost use Rattle.guest_writing.specs.Way.{IsPreparingAt, KeepsWay, StageFalls, StageKeeps, StageRefusal};
 ghost use Rattle.guest_writing.specs.Writing.{WritesIn};
 ghost use Rattle.guest_writing.specs.declared.stage.Stage.TheVariants as stages;
@@ -34,6 +35,7 @@ pub(crate) fn write_raw<D: SharedDisk>(
     ensures refusals { (chain : AnyChain) → EndsOnlyBy (StageRefusal (stages.Raw work) chain (length part.now)) result }
     ensures way { (volume : AnyId) (at : ℕ) (chain : AnyChain) → KeepsWay volume at chain (length part.now) result }
     ensures falls { (chain : AnyChain) → StageFalls (stages.Raw work) chain result }
+    ensures left { (volume : AnyId) (at count : ℕ) (chain : AnyChain) → StageNears (stages.Raw work) volume at chain chain count result }
     ensures content { Told (D.content disk.old) (D.content disk.new) (λ d e. (volume : AnyId) (at : ℕ) (chain : AnyChain) (room : List ℕ) → WritesIn (stages.Raw work) volume at chain chain host (D.faults disk.new) part.now room room result d e) }
 {
     match work.step(host, disk, part) {
@@ -61,6 +63,7 @@ pub(crate) fn prepare_layer<D: SharedDisk>(
     ensures chain { StageKeeps (stages.Preparing index work) chain.old chain.new }
     ensures way { KeepsWay volume at chain.new (length part.now) result }
     ensures falls { StageFalls (stages.Preparing index work) chain.old result }
+    ensures left { StageNears (stages.Preparing index work) volume at chain.old chain.new (length part.now) result }
     ensures content { Told (D.content disk.old) (D.content disk.new) (λ d e. (room : List ℕ) → WritesIn (stages.Preparing index work) volume at chain.old chain.new host (D.faults disk.new) part.now room room result d e) }
 {
     match prepare(index, work, host, chain, disk, part) {
@@ -91,6 +94,7 @@ pub(crate) fn fill_layer<D: SharedDisk>(
     ensures chain { StageKeeps (stages.Filling index work) chain.old chain.new }
     ensures way { (volume : AnyId) (at : ℕ) → KeepsWay volume at chain.new (length part.now) result }
     ensures falls { StageFalls (stages.Filling index work) chain.old result }
+    ensures left { (volume : AnyId) (at count : ℕ) → StageNears (stages.Filling index work) volume at chain.old chain.new count result }
     ensures content { Told (D.content disk.old) (D.content disk.new) (λ d e. (volume : AnyId) (at : ℕ) → WritesIn (stages.Filling index work) volume at chain.old chain.new host (D.faults disk.new) part.now room.old room.new result d e) }
 {
     match work.step(host, chain, disk, part, room) {
@@ -117,6 +121,7 @@ pub(crate) fn link_layer<D: SharedDisk>(
     ensures chain { StageKeeps (stages.Linking index work) chain.old chain.new }
     ensures way { (volume : AnyId) (at count : ℕ) → KeepsWay volume at chain.new count result }
     ensures falls { StageFalls (stages.Linking index work) chain.old result }
+    ensures left { (volume : AnyId) (at count : ℕ) → StageNears (stages.Linking index work) volume at chain.old chain.new count result }
     ensures content { Told (D.content disk.old) (D.content disk.new) (λ d e. (volume : AnyId) (at : ℕ) (part room : List ℕ) → WritesIn (stages.Linking index work) volume at chain.old chain.new host (D.faults disk.new) part room room result d e) }
 {
     match link(index, work, host, chain, disk) {

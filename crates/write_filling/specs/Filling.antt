@@ -137,6 +137,12 @@ abbrev pub FillsOn : Fillings → Chain → ℕ → ℕ → List ℕ → List �
 FillsOn s c host faults part before after turn d e = (w : Layer) (l : Laying) (x : VolumeRecord) (old : Volumes) (f : File) → d.file (place_kept w) ≡ Some f → Knows s c w l x old host before f d → l.part.bytes ≡ part
     → FillsOne s c w l x old host faults after turn f d e
 
+-- ---- on every disk
+
+-- the plan and its clusters stay the same
+abbrev pub KeepsPlaced : Fillings → FillingsTurn → Type 0
+KeepsPlaced s turn = MatchTurn turn (λ next. placed_of next ≡ placed_of s) (λ placed. placed ≡ placed_of s) (λ _ _. Unit {0})
+
 -- ---- of its parts
 
 pub record IsSameWork (s next : Fillings) : Type 0 where

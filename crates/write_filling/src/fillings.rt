@@ -31,7 +31,7 @@ pub struct Fillings {
 
 impl Fillings {
     ghost use Rattle.write_filling.specs.Cluster.{IsNewCluster};
-    ghost use Rattle.write_filling.specs.Filling.{FillsOn, GoesNext, IsAtWork, IsBegun, IsPassed};
+    ghost use Rattle.write_filling.specs.Filling.{FillsOn, GoesNext, IsAtWork, IsBegun, IsPassed, KeepsPlaced};
     ghost use Rattle.write_filling.specs.Left.{Falls};
 
     /// The filling of what was placed for a part, which begins with the byte `at` of the volume. The volume has this index on
@@ -67,6 +67,7 @@ impl Fillings {
         ensures refusals { EndsOnlyBy IsDiskRefusal result }
         ensures chain { chain.new ≡ chain.old }
         ensures falls { Falls self chain.old result }
+        ensures placed { KeepsPlaced self result }
         ensures content { Told (D.content disk.old) (D.content disk.new) (FillsOn self chain.old host (D.faults disk.new) part.now room.old room.new result) }
     {
         match self.stage {

@@ -1,5 +1,5 @@
 -- Fewer steps are left, where one kind of step follows another.
-use Rattle.std.proofs.Common.{◌≡◌, ℕ, ◌+◌, ◌*◌, ◌<◌, ◌≤◌, ap, ◌∙◌, arith}
+use Rattle.std.proofs.Common.{◌≡◌, ℕ, ◌+◌, ◌*◌, ◌<◌, ◌≤◌, List, [], ap, ◌∙◌, arith}
 use Rattle.std.proofs.Math.Nat.{mul-le-mul_right}
 use Rattle.layer_heading.specs.Clearing.{clearing_left}
 use Rattle.layer_heading.specs.declared.clearing.Clearing as headings
@@ -14,7 +14,7 @@ use Rattle.write_planning.specs.declared.span.Span.{Span}
 use Rattle.place_writing.specs.Places as places
 use Rattle.place_writing.specs.declared.places.PlaceWriting.{PlaceWriting}
 use Rattle.write_preparing.specs.Placed.{clusters_of, plan_of}
-use Rattle.write_preparing.specs.Preparing.{IsOfSpan, TakesNext, WritesFirst, stage_left, taking_left}
+use Rattle.write_preparing.specs.Preparing.{IsOfSpan, TakesNext, WritesFirst, planned_at, stage_left, taking_left}
 use Rattle.write_preparing.specs.declared.placed.Placed.{Placed}
 use Rattle.write_preparing.specs.declared.stage.Stage.{Stage}
 use Rattle.write_preparing.specs.declared.stage.Stage.TheVariants.{Surveying, Asking, Clearing, Placing, InPlace}
@@ -53,3 +53,19 @@ taking_falls p pieces c (InPlace placed s) some is =
 taking_falls p pieces c (Surveying s) some is = absurd is.1
 taking_falls p pieces c (Asking a) some is = absurd is.1
 taking_falls p pieces c (Clearing q d) some is = absurd is.1
+
+-- ---- the plan stays that of the part
+
+pub first_planned : (p : WritePlan) (clusters : List ℕ) (stage : Stage) → WritesFirst p clusters stage → planned_at stage ≡ span_of p
+first_planned p clusters (InPlace placed s) first = ap (λ (q : WritePlan). span_of q) first.plan
+first_planned p clusters (Surveying s) first = absurd first
+first_planned p clusters (Asking a) first = absurd first
+first_planned p clusters (Clearing q c) first = absurd first
+first_planned p clusters (Placing t) first = absurd first
+
+pub taking_planned : (p : WritePlan) (stage : Stage) → TakesNext p stage → planned_at stage ≡ span_of p
+taking_planned p (Placing t) is = ap (λ (q : WritePlan). span_of q) is.0
+taking_planned p (InPlace placed s) is = first_planned p [] (InPlace placed s) is.1
+taking_planned p (Surveying s) is = absurd is.1
+taking_planned p (Asking a) is = absurd is.1
+taking_planned p (Clearing q d) is = absurd is.1

@@ -89,6 +89,15 @@ IsOfSpan s stage = span_at stage ≡ s
 abbrev pub StageFalls : ℕ → Stage → StageTurn → Type 0
 StageFalls pieces stage turn = NearsEnd (IsOfSpan (span_at stage)) (stage_left pieces) (stage_left pieces stage) turn
 
+-- the part of the plan for which clusters are taken
+abbrev pub planned_at : Stage → Span
+planned_at (InPlace p s) = span_of (plan_of p)
+planned_at stage = span_at stage
+
+-- it stays the same, and is that of what is placed at the end
+abbrev pub StagePlans : Stage → StageTurn → Type 0
+StagePlans stage turn = MatchTurn turn (λ s. planned_at s ≡ planned_at stage) (λ placed. span_of (plan_of placed) ≡ planned_at stage) (λ _ _. Unit {0})
+
 -- The layer stays one of the same volume, with clusters as large.
 pub record IsSameLayer (w next : Layer) : Type 0 where
   pub target : target_kept next ≡ target_kept w
@@ -281,6 +290,12 @@ stage_turn (Ended b refusal) = Ended b refusal
 abbrev pub span_in : Preparing → Span
 span_in p = span_at p.stage
 
+abbrev pub planned_in : Preparing → Span
+planned_in p = planned_at p.stage
+
+abbrev pub Plans : Preparing → PreparingTurn → Type 0
+Plans p turn = StagePlans p.stage (stage_turn turn)
+
 abbrev pub preparing_left : ℕ → Preparing → ℕ
 preparing_left pieces p = stage_left pieces p.stage
 
@@ -305,6 +320,7 @@ GoesOnWithRoom p turn = GoesBehind p.stage (stage_turn turn)
 -- a preparing that was begun
 pub record IsBegun (s : Span) (p : Preparing) : Type 0 where
   pub span : span_in p ≡ s
+  pub planned : planned_in p ≡ s
   pub left : (pieces : ℕ) → preparing_left pieces p ≡ 2 * count_of s + 5 + taking_left s pieces
   pub early : IsEarly p.stage
   pub plain : (w : Layer) → IsPlainIn p w

@@ -5,7 +5,7 @@ ghost use Rattle.shared_disk.specs.Step.{EndsOnlyBy, IsDiskRefusal, StepCounts};
 ghost use Rattle.layer_placing.specs.Stages.{pieces_of};
 ghost use Rattle.part_survey.specs.Survey as survey;
 ghost use Rattle.write_planning.specs.Plan.{span_of};
-ghost use Rattle.write_preparing.specs.Preparing.{AsksNext, GoesBehind, IsPreparingRefusal, KeepsPlain, PreparesAt, StageFalls};
+ghost use Rattle.write_preparing.specs.Preparing.{AsksNext, GoesBehind, IsPreparingRefusal, KeepsPlain, PreparesAt, StageFalls, StagePlans};
 ghost use Rattle.write_preparing.specs.declared.stage.Stage.TheVariants.{Asking, Surveying};
 
 use crate::placed::Placed;
@@ -39,6 +39,7 @@ pub(crate) fn survey<D: SharedDisk>(
     ensures refusals { EndsOnlyBy IsDiskRefusal result }
     ensures layer { layer.new ≡ layer.old }
     ensures falls { StageFalls (pieces_of layer.old) (Surveying work) result }
+    ensures plans { StagePlans (Surveying work) result }
     ensures plain { KeepsPlain (Surveying work) layer.old layer.new result }
     ensures content { Told (D.content disk.old) (D.content disk.new) (PreparesAt (Surveying work) layer.old layer.new host (D.faults disk.new) result) }
 {
@@ -59,6 +60,7 @@ pub(crate) fn ask<D: SharedDisk>(
     ensures counts { StepCounts (D.faults disk.old) (D.faults disk.new) (D.calls disk.old) (D.calls disk.new) result }
     ensures refusals { EndsOnlyBy (IsPreparingRefusal layer.now) result }
     ensures falls { StageFalls (pieces_of layer.now) (Asking asked) result }
+    ensures plans { StagePlans (Asking asked) result }
     ensures plain { KeepsPlain (Asking asked) layer.now layer.now result }
     ensures room { GoesBehind (Asking asked) result }
     ensures content { Told (D.content disk.old) (D.content disk.new) (PreparesAt (Asking asked) layer.now layer.now host (D.faults disk.new) result) }

@@ -5,7 +5,7 @@ ghost use Rattle.shared_disk.specs.Step.{EndsOnlyBy, IsDiskRefusal, StepCounts};
 ghost use Rattle.layer_placing.specs.Stages.{pieces_of};
 ghost use Rattle.write_planning.specs.Plan.{span_of};
 ghost use Rattle.write_preparing.specs.Placed.{clusters_of, plan_of};
-ghost use Rattle.write_preparing.specs.Preparing.{IsPreparingRefusal, IsSameLayer, KeepsPlain, PreparesAt, StageFalls, TakesNext, WritesFirst};
+ghost use Rattle.write_preparing.specs.Preparing.{IsPreparingRefusal, IsSameLayer, KeepsPlain, PreparesAt, StageFalls, StagePlans, TakesNext, WritesFirst};
 ghost use Rattle.write_preparing.specs.declared.stage.Stage.TheVariants.{Clearing as AtClearing, Placing as AtPlacing};
 
 use crate::placed::Placed;
@@ -51,6 +51,7 @@ pub(crate) fn clear<D: SharedDisk>(
     ensures refusals { EndsOnlyBy IsDiskRefusal result }
     ensures layer { IsSameLayer layer.old layer.new }
     ensures falls { StageFalls (pieces_of layer.old) (AtClearing plan work) result }
+    ensures plans { StagePlans (AtClearing plan work) result }
     ensures plain { KeepsPlain (AtClearing plan work) layer.old layer.new result }
     ensures content { Told (D.content disk.old) (D.content disk.new) (PreparesAt (AtClearing plan work) layer.old layer.new host (D.faults disk.new) result) }
 {
@@ -72,6 +73,7 @@ pub(crate) fn place<D: SharedDisk>(
     ensures refusals { EndsOnlyBy (IsPreparingRefusal layer.old) result }
     ensures layer { IsSameLayer layer.old layer.new }
     ensures falls { StageFalls (pieces_of layer.old) (AtPlacing taking) result }
+    ensures plans { StagePlans (AtPlacing taking) result }
     ensures plain { KeepsPlain (AtPlacing taking) layer.old layer.new result }
     ensures content { Told (D.content disk.old) (D.content disk.new) (PreparesAt (AtPlacing taking) layer.old layer.new host (D.faults disk.new) result) }
 {

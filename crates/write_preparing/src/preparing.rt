@@ -4,7 +4,7 @@ ghost use Rattle.shared_disk.specs.Calls.{IsAligned, Told};
 ghost use Rattle.shared_disk.specs.Step.{EndsOnlyBy, NearsEnd, StepCounts};
 ghost use Rattle.layer_placing.specs.Stages.{pieces_of};
 ghost use Rattle.write_planning.specs.Span.{at_of, length_of};
-ghost use Rattle.write_preparing.specs.Preparing.{GoesBehind, IsPreparingRefusal, IsSameLayer, KeepsPlain, PreparesIn, StageFalls, span_at};
+ghost use Rattle.write_preparing.specs.Preparing.{GoesBehind, IsPreparingRefusal, IsSameLayer, KeepsPlain, PreparesIn, StageFalls, StagePlans, span_at};
 
 use crate::beginning::{ask, survey};
 use crate::placed::Placed;
@@ -32,6 +32,7 @@ fn step_stage<D: SharedDisk>(
     ensures refusals { EndsOnlyBy (IsPreparingRefusal layer.old) result }
     ensures layer { IsSameLayer layer.old layer.new }
     ensures falls { StageFalls (pieces_of layer.old) stage result }
+    ensures plans { StagePlans stage result }
     ensures plain { KeepsPlain stage layer.old layer.new result }
     ensures room { GoesBehind stage result }
     ensures content { Told (D.content disk.old) (D.content disk.new) (PreparesIn stage layer.old layer.new host (D.faults disk.new) part.now result) }
@@ -54,7 +55,7 @@ pub struct Preparing {
 }
 
 impl Preparing {
-    ghost use Rattle.write_preparing.specs.Preparing.{GoesOnWithRoom, IsBegun, IsSamePart, PreparesOn, StaysPlain, preparing_left, span_in};
+    ghost use Rattle.write_preparing.specs.Preparing.{GoesOnWithRoom, IsBegun, IsSamePart, Plans, PreparesOn, StaysPlain, preparing_left, span_in};
 
     /// The preparing of the write of a part.
     pub fn begin(span: Span) -> Preparing
@@ -81,6 +82,7 @@ impl Preparing {
         ensures refusals { EndsOnlyBy (IsPreparingRefusal layer.old) result }
         ensures layer { IsSameLayer layer.old layer.new }
         ensures falls { NearsEnd (IsSamePart self) (preparing_left (pieces_of layer.old)) (preparing_left (pieces_of layer.old) self) result }
+        ensures plans { Plans self result }
         ensures plain { StaysPlain self layer.old layer.new result }
         ensures room { GoesOnWithRoom self result }
         ensures content { Told (D.content disk.old) (D.content disk.new) (PreparesOn self layer.old layer.new host (D.faults disk.new) part.now result) }

@@ -5,7 +5,7 @@ ghost use Rattle.shared_disk.specs.Step.{EndsOnlyBy, IsDiskRefusal, StepCounts};
 ghost use Rattle.place_writing.specs.Places as places;
 ghost use Rattle.write_planning.specs.Plan.{span_of};
 ghost use Rattle.write_planning.specs.Span.{at_of, length_of};
-ghost use Rattle.write_preparing.specs.Preparing.{KeepsPlain, PreparesIn, StageFalls};
+ghost use Rattle.write_preparing.specs.Preparing.{KeepsPlain, PreparesIn, StageFalls, StagePlans};
 ghost use Rattle.write_preparing.specs.declared.stage.Stage.TheVariants.{InPlace};
 
 use crate::placed::Placed;
@@ -30,6 +30,7 @@ pub(crate) fn write_places<D: SharedDisk>(
     ensures counts { StepCounts (D.faults disk.old) (D.faults disk.new) (D.calls disk.old) (D.calls disk.new) result }
     ensures refusals { EndsOnlyBy IsDiskRefusal result }
     ensures falls { (pieces : ℕ) → StageFalls pieces (InPlace placed work) result }
+    ensures plans { StagePlans (InPlace placed work) result }
     ensures plain { KeepsPlain (InPlace placed work) layer.now layer.now result }
     ensures content { Told (D.content disk.old) (D.content disk.new) (PreparesIn (InPlace placed work) layer.now layer.now host (D.faults disk.new) part.now result) }
 {

@@ -1,4 +1,5 @@
-use Rattle.guest_writing.proofs.Dispatch.{falls_in, found_on, in_stage}
+use Rattle.std.proofs.Common.{length}
+use Rattle.guest_writing.proofs.Dispatch.{falls_in, found_on, in_stage, nears_in}
 use Rattle.guest_writing.proofs.guest.step_stage.Goals as goal
 
 pub returns-in-Begun-clause-content : goal.returns-in-Begun-clause-content
@@ -45,3 +46,12 @@ returns-in-Linking-clause-content g c d tells =
       in_stage c.args.stage _ c.args.volume c.args.at c.args.chain.now c.link_layer.new.chain c.args.host _ c.args.part.now c.args.room.now c.args.room.now c.link_layer.result d call.0 c.in-Linking.is
           (call.2 c.args.volume c.args.at c.args.part.now c.args.room.now),
     )
+
+pub returns-in-Raw-clause-left : goal.returns-in-Raw-clause-left
+returns-in-Raw-clause-left g c = nears_in c.args.stage _ c.args.volume c.args.at c.args.chain.now c.args.chain.now (length c.args.part.now) c.write_raw.result c.in-Raw.is (c.write_raw.ensures.left c.args.volume c.args.at (length c.args.part.now) c.args.chain.now)
+
+pub returns-in-Filling-clause-left : goal.returns-in-Filling-clause-left
+returns-in-Filling-clause-left g c = nears_in c.args.stage _ c.args.volume c.args.at c.args.chain.now c.fill_layer.new.chain (length c.args.part.now) c.fill_layer.result c.in-Filling.is (c.fill_layer.ensures.left c.args.volume c.args.at (length c.args.part.now))
+
+pub returns-in-Linking-clause-left : goal.returns-in-Linking-clause-left
+returns-in-Linking-clause-left g c = nears_in c.args.stage _ c.args.volume c.args.at c.args.chain.now c.link_layer.new.chain (length c.args.part.now) c.link_layer.result c.in-Linking.is (c.link_layer.ensures.left c.args.volume c.args.at (length c.args.part.now))

@@ -1,7 +1,10 @@
-use Rattle.std.proofs.Common.{sym, subst, inl}
+use Rattle.std.proofs.Common.{◌<◌, sym, subst, inl}
 use Rattle.volume_chain.specs.Layers.{IsLayerAt}
 use Rattle.volume_chain.specs.Chain.{open_in}
 use Rattle.volume_chain.specs.declared.chain.Chain.{Chain}
+use Rattle.guest_writing.specs.Left.{stage_left}
+use Rattle.guest_writing.specs.declared.stage.Stage.TheVariants.{Filling, Linking}
+use Rattle.guest_writing.proofs.Left.{fills_on, links_nearer}
 use Rattle.guest_writing.proofs.Fills.{goes_on, leaves, to_link, writes_same}
 use Rattle.guest_writing.proofs.layers.fill_layer.Goals as goal
 
@@ -52,3 +55,13 @@ returns-in-Ended-clause-content g c d tells =
             after = inl one.after;
           }),
     )
+
+pub returns-in-More-clause-left : goal.returns-in-More-clause-left
+returns-in-More-clause-left g c volume at count =
+    subst (λ (z : Chain). stage_left (Filling c.args.index c.in-More.next) volume at z count < stage_left (Filling c.args.index c.args.work) volume at c.args.chain.now count) (sym c.in-More.ensures.chain)
+    (fills_on c.args.chain.now volume at count c.args.index c.args.work c.in-More.next c.in-More.ensures.placed c.in-More.ensures.falls)
+
+pub returns-in-Done-clause-left : goal.returns-in-Done-clause-left
+returns-in-Done-clause-left g c volume at count =
+    subst (λ (z : Chain). stage_left (Linking c.args.index c.begin-linking.result) volume at z count < stage_left (Filling c.args.index c.args.work) volume at c.args.chain.now count) (sym c.in-Done.ensures.chain)
+    (links_nearer c.args.chain.now volume at count c.args.index c.args.work c.in-Done.placed c.begin-linking.result c.requires.way c.in-Done.ensures.placed c.begin-linking.ensures c.in-Done.ensures.falls)

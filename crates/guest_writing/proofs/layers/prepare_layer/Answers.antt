@@ -1,7 +1,11 @@
-use Rattle.std.proofs.Common.{List, ℕ, ◌≡◌, ◌%◌, length, sym, ap, ◌∙◌, subst}
+use Rattle.std.proofs.Common.{List, ℕ, ◌≡◌, ◌%◌, ◌<◌, length, Option, sym, ap, ◌∙◌, subst}
 use Rattle.shared_disk.specs.Calls.{IsAligned}
 use Rattle.write_planning.specs.Span.{at_of, length_of}
 use Rattle.write_planning.specs.declared.span.Span.{Span}
+use Rattle.volume_chain.specs.declared.volumes.OpenVolume.{OpenVolume}
+use Rattle.write_preparing.specs.Preparing.{preparing_left}
+use Rattle.guest_writing.specs.Left.{pieces_by}
+use Rattle.guest_writing.proofs.Left.{fills_nearer, prepares_nearer}
 use Rattle.guest_writing.proofs.Prepares.{goes_on, leaves, refuses, to_fill}
 use Rattle.guest_writing.proofs.Standing.{layer_still}
 use Rattle.guest_writing.proofs.layers.prepare_layer.Goals as goal
@@ -58,3 +62,15 @@ returns-in-Ended-clause-content g c d tells =
             after = refuses c.args.volume c.args.at c.args.chain.now c.prepare.new.chain c.args.index c.args.work l x old c.args.host _ start d call.0 of k _ one c.in-Ended.refusal one.turns;
           },
     )
+
+pub returns-in-More-clause-left : goal.returns-in-More-clause-left
+returns-in-More-clause-left g c =
+    let at = c.in-More.ensures.chain in
+    prepares_nearer c.args.chain.now c.prepare.new.chain c.args.volume c.args.at (length c.args.part.now) c.args.index c.args.work c.in-More.next at c.in-More.ensures.plans
+    (subst (λ (o : Option OpenVolume). preparing_left (pieces_by o) c.in-More.next < preparing_left (pieces_by o) c.args.work) (sym at.was) (c.in-More.ensures.falls at.before at.was).1)
+
+pub returns-in-Done-clause-left : goal.returns-in-Done-clause-left
+returns-in-Done-clause-left g c =
+    let at = c.in-Done.ensures.chain in
+    fills_nearer c.args.chain.now c.prepare.new.chain c.args.volume c.args.at (length c.args.part.now) c.args.index c.args.at c.args.work c.in-Done.placed c.begin-fillings.result at c.in-Done.ensures.plans c.begin-fillings.ensures
+    (subst (λ (o : Option OpenVolume). 0 < preparing_left (pieces_by o) c.args.work) (sym at.was) (c.in-Done.ensures.falls at.before at.was))

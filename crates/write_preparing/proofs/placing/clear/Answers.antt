@@ -1,5 +1,5 @@
 use Rattle.layer_placing.specs.Stages.{pieces_of}
-use Rattle.write_preparing.proofs.Falls.{taking_falls}
+use Rattle.write_preparing.proofs.Falls.{taking_falls, taking_planned}
 use Rattle.write_preparing.proofs.Clears.{clears_done, clears_ended, clears_more}
 use Rattle.write_preparing.proofs.placing.clear.Goals as goal
 
@@ -32,3 +32,6 @@ returns-in-Ended-clause-content g c d tells =
 
 pub returns-in-Done-clause-falls : goal.returns-in-Done-clause-falls
 returns-in-Done-clause-falls g c = taking_falls c.args.plan (pieces_of c.args.layer.now) c.args.work c.taking_of.result c.in-Done.ensures.falls c.taking_of.ensures
+
+pub returns-in-Done-clause-plans : goal.returns-in-Done-clause-plans
+returns-in-Done-clause-plans g c = taking_planned c.args.plan c.taking_of.result c.taking_of.ensures

@@ -1,6 +1,8 @@
-use Rattle.std.proofs.Common.{refl}
+use Rattle.std.proofs.Common.{refl, ap, ◌∙◌}
 use Rattle.layer_placing.specs.Stages.{pieces_of}
-use Rattle.write_preparing.proofs.Falls.{first_falls}
+use Rattle.write_planning.specs.Plan.{span_of}
+use Rattle.write_planning.specs.declared.plan.WritePlan.{WritePlan}
+use Rattle.write_preparing.proofs.Falls.{first_falls, first_planned}
 use Rattle.write_preparing.proofs.Takes.{takes_done, takes_ended, takes_more}
 use Rattle.write_preparing.proofs.placing.place.Goals as goal
 
@@ -34,3 +36,6 @@ returns-in-Ended-clause-content g c d tells =
 
 pub returns-in-Done-clause-falls : goal.returns-in-Done-clause-falls
 returns-in-Done-clause-falls g c = first_falls c.args.taking.plan (pieces_of c.args.layer.now) c.args.taking.work c.new.result c.written_first.result c.new.ensures.plan c.written_first.ensures c.in-Done.ensures.falls
+
+pub returns-in-Done-clause-plans : goal.returns-in-Done-clause-plans
+returns-in-Done-clause-plans g c = first_planned _ _ c.written_first.result c.written_first.ensures ∙ ap (λ (q : WritePlan). span_of q) c.new.ensures.plan
