@@ -35,6 +35,7 @@ fn whole_piece(span: &Span, index: usize) -> Piece
 }
 
 impl PlaceWriting {
+    ghost use Rattle.place_writing.specs.Calls.{ComesOn, StepsBy};
     ghost use Rattle.place_writing.specs.Places.{IsBegun, IsSamePlan, PassesOn, PlacesOn, WritesPiece, index_of, plan_of, places_left};
 
     /// The writing of a part over the data that a plan found.
@@ -59,6 +60,8 @@ impl PlaceWriting {
         ensures counts { StepCounts (D.faults disk.old) (D.faults disk.new) (D.calls disk.old) (D.calls disk.new) result }
         ensures refusals { EndsOnlyBy IsDiskRefusal result }
         ensures falls { NearsEnd (IsSamePlan self) places_left (places_left self) result }
+        ensures passes { ComesOn self result }
+        ensures steps { Told (D.content disk.old) (D.content disk.new) (StepsBy self layer.now host (D.faults disk.new) part.now result) }
         ensures content { Told (D.content disk.old) (D.content disk.new) (PlacesOn self layer.now host (D.faults disk.new) part.now result) }
     {
         match self.plan.target(self.index) {
