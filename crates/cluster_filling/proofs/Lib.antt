@@ -4,3 +4,4 @@ pub mod Medium
 pub mod Paths
 pub mod Steps
 pub mod Survives
+mod Calls

@@ -3,3 +3,4 @@ pub mod Filled
 pub mod Filling
 pub mod Laying
 pub mod Left
+pub mod Calls

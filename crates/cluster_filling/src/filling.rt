@@ -34,6 +34,7 @@ pub struct Filling {
 }
 
 impl Filling {
+    ghost use Rattle.cluster_filling.specs.Calls.{StepsBy};
     ghost use Rattle.cluster_filling.specs.Filling.{FillsOn, IsBegun, KeepsCluster};
     ghost use Rattle.cluster_filling.specs.Left.{Falls};
 
@@ -68,6 +69,7 @@ impl Filling {
         ensures chain { chain.new ≡ chain.old }
         ensures keeps { KeepsCluster self result }
         ensures falls { Falls self chain.old result }
+        ensures steps { Told (D.content disk.old) (D.content disk.new) (StepsBy self chain.old host part.now room.old room.new (D.faults disk.new) result) }
         ensures content { Told (D.content disk.old) (D.content disk.new) (FillsOn self chain.old host part.now room.old room.new result) }
     {
         let count = self.cluster.piece(self.done);

@@ -2,6 +2,7 @@
 ghost use Rattle.std.specs.Prelude.{◌≡◌, ◌*◌, ◌≤◌, length, replicate};
 ghost use Rattle.shared_disk.specs.Calls.{IsPiece, Told};
 ghost use Rattle.shared_disk.specs.Step.{EndsOnlyBy, IsDiskRefusal, StepCounts};
+ghost use Rattle.cluster_filling.specs.Calls.{StepsIn};
 ghost use Rattle.cluster_filling.specs.Filling.{BeginsPiece, FillsPiece, IsAdvanced, IsAt, KeepsCluster, ReadsPiece, Skips, WritesPiece, piece_of};
 ghost use Rattle.cluster_filling.specs.Left.{Falls, FallsIn};
 ghost use Rattle.cluster_filling.specs.declared.filling.Stage.TheVariants as stages;
@@ -79,6 +80,7 @@ impl Filling {
         ensures chain { chain.new ≡ chain.old }
         ensures keeps { KeepsCluster self result }
         ensures falls { Falls self chain.old result }
+        ensures steps { Told (D.content disk.old) (D.content disk.new) (StepsIn self.stage self chain.old host part.now piece.old piece.new (D.faults disk.new) result) }
         ensures content { Told (D.content disk.old) (D.content disk.new) (FillsPiece self chain.old host part.now piece.old piece.new result) }
     {
         match self.stage {
