@@ -4,3 +4,9 @@ pub mod Files
 pub mod Freed
 pub mod Turns
 pub mod Steps
+pub mod Liberated
+pub mod Standing
+pub mod Syncing
+pub mod Managed
+pub mod Beside
+pub mod Machine

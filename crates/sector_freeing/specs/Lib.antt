@@ -6,3 +6,7 @@ pub mod Knowing
 pub mod Inner
 pub mod Calls
 pub mod Steps
+pub mod Managing
+pub mod Stepped
+pub mod Laws
+pub mod Turns

@@ -40,6 +40,7 @@ impl SectorFreeing {
     ghost use Rattle.sector_freeing.specs.Calls.{CallOf};
     ghost use Rattle.sector_freeing.specs.Falls.{Nears};
     ghost use Rattle.sector_freeing.specs.Freeing.{IsAt, MayRefuse, stage_of};
+    ghost use Rattle.sector_freeing.specs.Stepped.{FreesInPool};
     ghost use Rattle.sector_freeing.specs.Steps.{FreesSectors};
     ghost use Rattle.sector_freeing.specs.declared.freeing.Stage.TheVariants.{Looking};
 
@@ -59,6 +60,19 @@ impl SectorFreeing {
     /// 41 with what stands in a sector that was changed since it was read; 120 and 122 come from the disk. After a refusal each
     /// sector is held for its task still, or it is freed: what is left is done by a freeing that begins anew.
     pub fn step<D: SharedDisk>(self, host: HostId, disk: &mut D) -> Turn<SectorFreeing, (), ()>
+        ensures counts { StepCounts (D.faults disk.old) (D.faults disk.new) (D.calls disk.old) (D.calls disk.new) result }
+        ensures counted { D.calls disk.new ≡ min (D.calls disk.old + 1) (2 ^ 64 - 1) }
+        ensures refusals { EndsOnlyBy (MayRefuse (stage_of self)) result }
+        ensures falls { Nears self result }
+        ensures call { Told (D.content disk.old) (D.content disk.new) (CallOf self host (D.faults disk.new) result) }
+        ensures content { Told (D.content disk.old) (D.content disk.new) (FreesSectors self host (D.faults disk.new) result) }
+        ensures pool { Told (D.content disk.old) (D.content disk.new) (FreesInPool self host (D.faults disk.new) result) }
+    {
+        self.advance(host, disk)
+    }
+
+    // The call of the stage.
+    fn advance<D: SharedDisk>(self, host: HostId, disk: &mut D) -> Turn<SectorFreeing, (), ()>
         ensures counts { StepCounts (D.faults disk.old) (D.faults disk.new) (D.calls disk.old) (D.calls disk.new) result }
         ensures counted { D.calls disk.new ≡ min (D.calls disk.old + 1) (2 ^ 64 - 1) }
         ensures refusals { EndsOnlyBy (MayRefuse (stage_of self)) result }

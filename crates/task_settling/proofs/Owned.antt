@@ -42,7 +42,7 @@ use Rattle.task_settling.proofs.Frame.{KeepsDomains, text_stood}
 -- ---- the disk
 
 -- which folder this is
-dir_is : (q x : Dir) → (q ≡ x) ⊎ (q ≢ x)
+pub dir_is : (q x : Dir) → (q ≡ x) ⊎ (q ≢ x)
 dir_is q x = go (is_place (place_in q name.Leases) (place_in x name.Leases))
   where
     go : (place_in q name.Leases ≡ place_in x name.Leases) ⊎ (place_in q name.Leases ≢ place_in x name.Leases) → (q ≡ x) ⊎ (q ≢ x)
@@ -50,7 +50,7 @@ dir_is q x = go (is_place (place_in q name.Leases) (place_in x name.Leases))
     go (inr apart) = inr (λ same. apart (ap (λ (y : Dir). place_in y name.Leases) same))
 
 -- whoever holds an image may change each file of its folder
-may_own : (h : ℕ) (p : Pool) (sd i : Id) (n : Name) (a b : Option File) → Holds p h sd i → MayChangeImage h p sd i n a b
+pub may_own : (h : ℕ) (p : Pool) (sd i : Id) (n : Name) (a b : Option File) → Holds p h sd i → MayChangeImage h p sd i n a b
 may_own h p sd i name.Metadata a b held = held
 may_own h p sd i name.MetadataNew a b held = held
 may_own h p sd i name.Leases a b held = held
@@ -175,7 +175,7 @@ writing_owned up d e p m t h v stands keeps master apart lead =
 
 -- ---- the pool
 
-number_is : (j k : ℕ) → (j ≡ k) ⊎ (j ≢ k)
+pub number_is : (j k : ℕ) → (j ≡ k) ⊎ (j ≢ k)
 number_is j k = go (j == k) refl
   where
     go : (b : Bool) → (j == k) ≡ b → (j ≡ k) ⊎ (j ≢ k)

@@ -78,7 +78,7 @@ guest_or_task : kind.Guest ≡ kind.Task → ⊥
 guest_or_task e = cc
 
 -- two hosts that lead are one
-one_leader : (p : Pool) (g h : ℕ) → Leads p g → Leads p h → g ≡ h
+pub one_leader : (p : Pool) (g h : ℕ) → Leads p g → Leads p h → g ≡ h
 one_leader p g h (m, (r, is, sector, owner)) (n, (s, so, other, holder)) =
     let here = subst (λ (i : Id). p.sector i 0 ≡ Lease s) (one_master p.master n m so is) other in
     sym owner ∙ ap (λ (y : LeaseRecord). y.owner) (one_record (p.sector m 0) r s sector here) ∙ holder
@@ -86,26 +86,26 @@ one_leader p g h (m, (r, is, sector, owner)) (n, (s, so, other, holder)) =
 -- ---- the leases file of a listed domain
 
 module _ (up : Hosts) (d : Content) (p : Pool) (sd : Id) (r : DomainRecord) (stands : Stands up d p) (listed : p.domain sd ≡ Some r) where
-  leases_at : LeasesStand (p.sector sd) (file_in sd name.Leases d)
+  pub leases_at : LeasesStand (p.sector sd) (file_in sd name.Leases d)
   leases_at = (listed_here up d p sd r stands listed).leases
 
-  read_lease : (f : File) → d.file (leases_of sd) ≡ Some f → (k : ℕ) (x : LeaseRecord) → IsImageSlot k → sector_in (f.stable k) ≡ Some (Lease x) → p.sector sd k ≡ Lease x
+  pub read_lease : (f : File) → d.file (leases_of sd) ≡ Some f → (k : ℕ) (x : LeaseRecord) → IsImageSlot k → sector_in (f.stable k) ≡ Some (Lease x) → p.sector sd k ≡ Lease x
   read_lease f there k x slot reads =
       let same : leases_at.file ≡ f = one_file leases_at.file f (d.file (leases_of sd)) leases_at.there there in
       one_sector (p.sector sd k) (Lease x) (sym (sector_back (p.sector sd k) (leases_at.fits k)) ∙ ap sector_in (sym (leases_at.each k slot.high)) ∙ ap (λ (g : File). sector_in (g.stable k)) same ∙ reads)
 
-  lease_reads : (f : File) → d.file (leases_of sd) ≡ Some f → (k : ℕ) (x : LeaseRecord) → IsImageSlot k → p.sector sd k ≡ Lease x → sector_in (f.stable k) ≡ Some (Lease x)
+  pub lease_reads : (f : File) → d.file (leases_of sd) ≡ Some f → (k : ℕ) (x : LeaseRecord) → IsImageSlot k → p.sector sd k ≡ Lease x → sector_in (f.stable k) ≡ Some (Lease x)
   lease_reads f there k x slot is =
       let same : leases_at.file ≡ f = one_file leases_at.file f (d.file (leases_of sd)) leases_at.there there in
       ap (λ (g : File). sector_in (g.stable k)) (sym same) ∙ ap sector_in (leases_at.each k slot.high) ∙ sector_back (p.sector sd k) (leases_at.fits k) ∙ ap (λ (s : Sector). Some s) is
 
-  bytes_at : (f : File) → d.file (leases_of sd) ≡ Some f → (k : ℕ) → IsImageSlot k → f.stable k ≡ sector_bytes (p.sector sd k)
+  pub bytes_at : (f : File) → d.file (leases_of sd) ≡ Some f → (k : ℕ) → IsImageSlot k → f.stable k ≡ sector_bytes (p.sector sd k)
   bytes_at f there k slot =
       let same : leases_at.file ≡ f = one_file leases_at.file f (d.file (leases_of sd)) leases_at.there there in
       ap (λ (g : File). g.stable k) (sym same) ∙ leases_at.each k slot.high
 
 -- whoever may change a file of an image's folder holds the image, or is the manager
-may_is : (h : ℕ) (p : Pool) (sd i : Id) (n : Name) (a b : Option File) → MayChangeImage h p sd i n a b → Holds p h sd i ⊎ Leads p h
+pub may_is : (h : ℕ) (p : Pool) (sd i : Id) (n : Name) (a b : Option File) → MayChangeImage h p sd i n a b → Holds p h sd i ⊎ Leads p h
 may_is h p sd i name.Metadata a b may = inl may
 may_is h p sd i name.MetadataNew a b may = inl may
 may_is h p sd i name.Leases a b may = inl may
@@ -320,7 +320,7 @@ others_keep texts up v h g d e p q t beside knows = (
 
 -- ---- another host goes down
 
-settled_for : (h : ℕ) (f : File) → IsSettled f → IsSettledFor h f
+pub settled_for : (h : ℕ) (f : File) → IsSettled f → IsSettledFor h f
 settled_for h f settled = record {
   loose = λ l among. absurd (nothing_in l (subst (λ (ls : List Loose). Contains ls l) settled.loose among));
   fresh = λ made. no_maker f.fresh settled.fresh made;

@@ -17,7 +17,7 @@ use Rattle.task_settling.specs.Steps.{Stepped}
 use Rattle.task_settling.specs.Turns.{Recovers, answer_of, running_after, running_with, runs}
 
 -- where the disk failed in a verb that recovers, the host is as before
-cut_by : (v : Verb) (ns : List Mark) (n : ℕ) (x y : HostState) → Recovers v → IsIdle x y x.role → Cut v ns n x y
+pub cut_by : (v : Verb) (ns : List Mark) (n : ℕ) (x y : HostState) → Recovers v → IsIdle x y x.role → Cut v ns n x y
 cut_by v ns n x y (inl is) idle = subst (λ (w : Verb). Cut w ns n x y) (sym is) idle
 cut_by v ns n x y (inr (sd, (prev, (lver, is)))) idle = subst (λ (w : Verb). Cut w ns n x y) (sym is) idle
 
