@@ -5,6 +5,7 @@ pub mod Freed
 pub mod Turns
 pub mod Steps
 pub mod Liberated
+pub mod Elsewhere
 pub mod Standing
 pub mod Syncing
 pub mod Managed

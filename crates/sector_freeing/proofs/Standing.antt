@@ -17,7 +17,6 @@ use Rattle.shared_disk.proofs.AtPlace.{one_file}
 use Rattle.shared_disk.proofs.Toolkit.{exchanged_settled}
 use Rattle.folder_layout.specs.Layout.{HoldsName}
 use Rattle.domain_meta.specs.declared.record.DomainRecord.{DomainRecord}
-use Rattle.task_store.specs.declared.task.Task.{Task}
 use Rattle.lease_area.specs.Hold.{IsMoved, leases_of}
 use Rattle.lease_area.specs.Move.{freed}
 use Rattle.lease_area.specs.Sector.{IsRecord, IsSector, sector_bytes}
@@ -33,7 +32,7 @@ use Rattle.pool_model.specs.Leases.{Holds, IsGuest, Leads, NamesAt}
 use Rattle.pool_model.specs.Owned.{IsLeasesChange, MayChange, OwnedChange}
 use Rattle.pool_model.specs.Pool.{Image, Pool, Torn, at_number}
 use Rattle.pool_model.specs.Rules.{IsListed}
-use Rattle.pool_model.specs.Standing.{ImageStands, IsAlive, IsHeldFile, IsThere, IsTornBy, IsUnasked, IsVolumeName, LeasesStand, Stands, TaskAt, TasksStand, file_in, lease_sectors}
+use Rattle.pool_model.specs.Standing.{ImageStands, IsAlive, IsHeldFile, IsThere, IsTornBy, IsUnasked, IsVolumeName, LeasesStand, Stands, file_in, lease_sectors}
 use Rattle.pool_model.specs.Tasks.{IsMaking, NoneOpen}
 use Rattle.pool_model.specs.Verb.{Verb}
 use Rattle.pool_model.proofs.Frames.{image_stays}
@@ -45,6 +44,7 @@ use Rattle.task_settling.proofs.Owned.{owned_so}
 use Rattle.task_settling.proofs.Places.{none_some}
 use Rattle.task_settling.proofs.Stable.{one_leader}
 use Rattle.sector_freeing.specs.Knowing.{AreSynced}
+use Rattle.sector_freeing.proofs.Elsewhere.{by_image, tasks_stay}
 use Rattle.sector_freeing.proofs.Liberated.{free_move, here_sectors, holds_stay, lease_was, liberated, named_other, other_sectors, slot_same, still_named, was_named}
 
 own_apart : (sd i m : Id) → dir.Image sd i ≡ dir.DomMd m → ⊥
@@ -171,35 +171,6 @@ module _ (h : ℕ) (up : Hosts) (d e : Content) (p : Pool) (sd i : Id) (k : ℕ)
     };
   }
 
-  -- ---- tasks
-
-  task_stays : (a t : Id) (o : Option Task) → TaskAt d a t o → TaskAt e a t o
-  task_stays a t None x = elsewhere (dir.Tasks a) (name.Task t) (tasks_apart a sd) ∙ x
-  task_stays a t (Some y) x = record {
-    text = x.text;
-    stored = record {
-      file = x.stored.file;
-      there = elsewhere (dir.Tasks a) (name.Task t) (tasks_apart a sd) ∙ x.stored.there;
-      settled = x.stored.settled;
-      stored = x.stored.stored;
-    };
-    short = x.short;
-    reads = x.reads;
-  }
-
-  tasks_stay : TasksStand d p → TasksStand e q
-  tasks_stay x = record {
-    each = λ a t is. task_stays a t (p.task t) (x.each a t is);
-    elsewhere = λ a t apart. elsewhere (dir.Tasks a) (name.Task t) (tasks_apart a sd) ∙ x.elsewhere a t apart;
-    unmade = x.unmade;
-    listed = x.listed;
-    are = record { rising = x.are.rising; each = x.are.each; all = x.are.all };
-    few = x.few;
-    one = x.one;
-    built = x.built;
-    inside = x.inside;
-  }
-
   -- ---- images
 
   leaves : (a j : Id) → ((a ≡ sd) → (j ≡ i) → ⊥) → LeavesImage up d e p q a j
@@ -264,16 +235,8 @@ module _ (h : ℕ) (up : Hosts) (d e : Content) (p : Pool) (sd i : Id) (k : ℕ)
       held_now n f is (inl at) = own n f is at
       held_now n f is (inr at) = absurd (false≢true (sym (moved.2.dirs (dir.Removed sd i) ∙ here.1.removed) ∙ well.folders (place_in (dir.Removed sd i) n) f at))
 
-  by_image : (P : Id → Id → Type 0) (a j : Id) → P sd i → (((a ≡ sd) → (j ≡ i) → ⊥) → P a j) → P a j
-  by_image P a j here other = go (is_one a sd) (is_one j i)
-    where
-      go : (a ≡ sd) ⊎ (a ≢ sd) → (j ≡ i) ⊎ (j ≢ i) → P a j
-      go (inr unlike) one = other (λ same _. unlike same)
-      go (inl same) (inr unlike) = other (λ _ alike. unlike alike)
-      go (inl same) (inl alike) = subst (λ (b : Id). P b j) (sym same) (subst (λ (b : Id). P sd b) (sym alike) here)
-
   image_stands : (a : Id) (x : DomainRecord) → p.domain a ≡ Some x → (j : Id) → ImageStands up e q a x.version j
-  image_stands a x is j = by_image (λ b l. ImageStands up d p b x.version l → ImageStands up e q b x.version l) a j (this_image x.version)
+  image_stands a x is j = by_image sd i (λ b l. ImageStands up d p b x.version l → ImageStands up e q b x.version l) a j (this_image x.version)
       (λ other. image_stays up d e p q a j x.version stands.alive (leaves a j other)) (stands.image a x is j)
 
   unasked_stays : (a : Id) (x : DomainRecord) → p.domain a ≡ Some x → (j : Id) → IsUnasked q a j
@@ -288,7 +251,7 @@ module _ (h : ℕ) (up : Hosts) (d e : Content) (p : Pool) (sd i : Id) (k : ℕ)
       go (inr apart) = stands.alive at f (sym (moved.2.others at apart) ∙ there)
 
   pub freeing_stands : Stands up e (liberated p sd k r)
-  freeing_stands = frame up d e p q.sector q.image p.task stands domains_kept (tasks_stay stands.tasks) image_stands unasked_stays alive_stays
+  freeing_stands = frame up d e p q.sector q.image p.task stands domains_kept (tasks_stay d e (λ a t. elsewhere (dir.Tasks a) (name.Task t) (tasks_apart a sd)) p q.sector stands.tasks) image_stands unasked_stays alive_stays
       (λ at f there. laid at f there (is_place at (leases_of sd)))
     where
       laid : (at : Place) (f : File) → e.file at ≡ Some f → (at ≡ leases_of sd) ⊎ (at ≢ leases_of sd) → HoldsName at.dir at.name

@@ -14,15 +14,13 @@ use Rattle.shared_disk.proofs.AtPlace.{one_file}
 use Rattle.shared_disk.proofs.Outcomes.{synced_file, unless_some, without_among}
 use Rattle.folder_layout.specs.Layout.{HoldsName}
 use Rattle.domain_meta.specs.declared.record.DomainRecord.{DomainRecord}
-use Rattle.task_store.specs.declared.task.Task.{Task}
 use Rattle.chain_model.specs.Folder.{Folder, IsFolderOutcome, folder_of}
-use Rattle.chain_model.proofs.Settled.{is_one}
 use Rattle.pool_model.specs.Laws.{AreAlive, LeavesImage}
 use Rattle.pool_model.specs.Leases.{Holds, IsNamed}
 use Rattle.pool_model.specs.Owned.{MayChange, OwnedChange}
 use Rattle.pool_model.specs.Pool.{Image, Pool}
 use Rattle.pool_model.specs.Rules.{IsListed}
-use Rattle.pool_model.specs.Standing.{ImageStands, IsAlive, IsHeldFile, IsThere, IsVolumeName, LeasesStand, Stands, TaskAt, TasksStand}
+use Rattle.pool_model.specs.Standing.{ImageStands, IsAlive, IsHeldFile, IsThere, IsVolumeName, LeasesStand, Stands}
 use Rattle.pool_model.specs.Verb.{Verb}
 use Rattle.pool_model.proofs.Frames.{image_stays}
 use Rattle.pool_model.proofs.OneDomain.{listed_here}
@@ -30,6 +28,7 @@ use Rattle.pool_model.proofs.Roles.{is_place}
 use Rattle.task_settling.proofs.Frame.{KeepsDomains, frame}
 use Rattle.task_settling.proofs.Owned.{may_own, owned_so}
 use Rattle.task_settling.proofs.Places.{none_some}
+use Rattle.sector_freeing.proofs.Elsewhere.{by_image, tasks_stay}
 use Rattle.sector_freeing.proofs.Files.{shown_before}
 
 md_not_own : (a b i : Id) → dir.DomMd a ≡ dir.Image b i → ⊥
@@ -80,28 +79,6 @@ module _ (h : ℕ) (up : Hosts) (d e : Content) (p : Pool) (sd i : Id) (n : Name
 
   task_same : (a t : Id) → e.file (place_in (dir.Tasks a) (name.Task t)) ≡ d.file (place_in (dir.Tasks a) (name.Task t))
   task_same a t = outside (place_in (dir.Tasks a) (name.Task t)) (tasks_not_own a sd i)
-
-  task_stays : (a t : Id) (o : Option Task) → TaskAt d a t o → TaskAt e a t o
-  task_stays a t None x = task_same a t ∙ x
-  task_stays a t (Some y) x = record {
-    text = x.text;
-    stored = record { file = x.stored.file; there = task_same a t ∙ x.stored.there; settled = x.stored.settled; stored = x.stored.stored };
-    short = x.short;
-    reads = x.reads;
-  }
-
-  tasks_stay : TasksStand d p → TasksStand e p
-  tasks_stay x = record {
-    each = λ a t is. task_stays a t (p.task t) (x.each a t is);
-    elsewhere = λ a t other. task_same a t ∙ x.elsewhere a t other;
-    unmade = x.unmade;
-    listed = x.listed;
-    are = x.are;
-    few = x.few;
-    one = x.one;
-    built = x.built;
-    inside = x.inside;
-  }
 
   -- ---- the image's files
 
@@ -181,17 +158,8 @@ module _ (h : ℕ) (up : Hosts) (d e : Content) (p : Pool) (sd i : Id) (n : Name
   }
 
   image_stands : (a : Id) (r : DomainRecord) → p.domain a ≡ Some r → (j : Id) → ImageStands up e p a r.version j
-  image_stands a r is j = go (is_one a sd) (is_one j i) (stands.image a r is j)
-    where
-      other : ((a ≡ sd) → (j ≡ i) → ⊥) → ImageStands up d p a r.version j → ImageStands up e p a r.version j
-      other apart_is x = image_stays up d e p p a j r.version stands.alive (leaves a j apart_is) x
-
-      go : (a ≡ sd) ⊎ (a ≢ sd) → (j ≡ i) ⊎ (j ≢ i) → ImageStands up d p a r.version j → ImageStands up e p a r.version j
-      go (inr unlike) one = other (λ same _. unlike same)
-      go (inl same) (inr unlike) = other (λ _ alike. unlike alike)
-      go (inl same) (inl alike) =
-          subst (λ (b : Id). ImageStands up d p b r.version j → ImageStands up e p b r.version j) (sym same)
-          (subst (λ (b : Id). ImageStands up d p sd r.version b → ImageStands up e p sd r.version b) (sym alike) (this_image r.version))
+  image_stands a r is j = by_image sd i (λ b l. ImageStands up d p b r.version l → ImageStands up e p b r.version l) a j (this_image r.version)
+      (λ other. image_stays up d e p p a j r.version stands.alive (leaves a j other)) (stands.image a r is j)
 
   alive_stays : AreAlive up e
   alive_stays at g there = go (file_was at g there)
@@ -201,7 +169,7 @@ module _ (h : ℕ) (up : Hosts) (d e : Content) (p : Pool) (sd i : Id) (n : Name
       go (inr (same, now)) = subst (λ (z : File). IsAlive up z) (sym now) (alive_synced up h f (stands.alive here f was))
 
   pub syncing_stands : Stands up e p
-  syncing_stands = frame up d e p p.sector p.image p.task stands domains_kept (tasks_stay stands.tasks) image_stands (λ a r is j. stands.unasked a r is j) alive_stays laid
+  syncing_stands = frame up d e p p.sector p.image p.task stands domains_kept (tasks_stay d e task_same p p.sector stands.tasks) image_stands (λ a r is j. stands.unasked a r is j) alive_stays laid
     where
       laid : (at : Place) (g : File) → e.file at ≡ Some g → HoldsName at.dir at.name
       laid at g there = let before = shown_before d e here at f (synced h f) g was put there in stands.layout at before.0 before.1
