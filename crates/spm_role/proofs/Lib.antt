@@ -1,3 +1,4 @@
+mod Setting
 mod Faults
 mod Taking
 mod Between

@@ -1,3 +1,4 @@
+pub mod Lists
 pub mod Spm
 pub mod Master
 pub mod List

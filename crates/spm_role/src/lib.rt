@@ -10,7 +10,7 @@ mod spm;
 mod start;
 mod stop;
 
-pub use lists::{DomainList, TaskList};
+pub use lists::{DomainList, TASKS, TaskList};
 pub use spm::Spm;
 pub use start::{SpmStart, Stage};
 pub use stop::spm_stop;

@@ -1,9 +1,10 @@
 // The lists that a manager keeps, in room that was taken when it began.
-ghost use Rattle.std.specs.Prelude.{◌≡◌, ◌≤◌, [], length, not, IfOk};
+ghost use Rattle.std.specs.Prelude.{◌≡◌, ◌≤◌, [], length, map, not, IfOk};
 ghost use Rattle.std.specs.List.{filter, list_any};
 ghost use Rattle.sd_names.specs.declared.id.Id.{Id as AnyId};
 ghost use Rattle.sd_names.specs.declared.task_state.TaskState.{TaskState as AnyState};
 ghost use Rattle.shared_disk.specs.Places.{id_is};
+ghost use Rattle.spm_role.specs.Lists.{with_state};
 
 use sd_names::{Id, NoMemory, TaskState};
 use std::alloc::Global;
@@ -13,7 +14,7 @@ use std::marker::Model;
 const DOMAINS: usize = 4;
 
 /// How many tasks a pool keeps at the most.
-const TASKS: usize = 128;
+pub const TASKS: usize = 128;
 
 /// The domains of a pool, at most 4, in room for 4. A contract sees the list.
 #[derive(Debug, Drop)]
@@ -110,6 +111,17 @@ impl TaskList {
         ensures { self.new ≡ filter (λ (a : AnyId × AnyState). not (id_is a.0 task.now)) self.old }
     {
         self.tasks.retain(|pair| !is_of(pair, task));
+    }
+
+    /// Gives the task of this identifier this state, where it is there.
+    pub fn set(&mut self, task: &Id, state: TaskState)
+        ensures { self.new ≡ map (with_state task.now state) self.old }
+    {
+        for pair in self.tasks.iter_mut() {
+            if is_of(pair, task) {
+                pair.1 = state;
+            }
+        }
     }
 
     /// The tasks, lent.
