@@ -17,14 +17,14 @@ use Rattle.task_listing.specs.declared.listing.TaskListing.{TaskListing}
 one_master : (o : Option Id) (a b : Id) → o ≡ Some a → o ≡ Some b → a ≡ b
 one_master o a b e f = cc
 
-no_master : (o : Option Id) (a : Id) → o ≡ None → o ≡ Some a → ⊥
+pub no_master : (o : Option Id) (a : Id) → o ≡ None → o ≡ Some a → ⊥
 no_master o a e f = cc
 
 one_record : (s : Sector) (a b : LeaseRecord) → s ≡ Lease a → s ≡ Lease b → a ≡ b
 one_record s a b e f = cc
 
 -- two hosts that lead are one
-one_leader : (p : Pool) (g h : ℕ) → Leads p g → Leads p h → g ≡ h
+pub one_leader : (p : Pool) (g h : ℕ) → Leads p g → Leads p h → g ≡ h
 one_leader p g h (m, (r, is, sector, owner)) (n, (s, so, other, holder)) =
     let here = subst (λ (i : Id). p.sector i 0 ≡ Lease s) (one_master p.master n m so is) other in
     sym owner ∙ ap (λ (y : LeaseRecord). y.owner) (one_record (p.sector m 0) r s sector here) ∙ holder

@@ -39,7 +39,7 @@ use Rattle.pool_model.proofs.Roles.{nothing_changed, nothing_owned}
 use Rattle.task_settling.specs.Inner.{ClearsImage, GoesBehind, IsCleared, IsSameClearing}
 use Rattle.task_settling.specs.Knowing.{ClearsLast, HaveIds, Knows, KnowsStage, KnowsTask}
 use Rattle.task_settling.specs.Settling.{IsAt, SettleTurn, cleared_by, settled_of, stage_of}
-use Rattle.task_settling.specs.Steps.{After, ChangesOnly, Passes, Stepped}
+use Rattle.task_settling.specs.Steps.{After, ChangesOnly, IsSettlingChange, Passes, Stepped}
 use Rattle.task_settling.specs.declared.settling.Stage.{Stage}
 use Rattle.task_settling.specs.declared.settling.Stage.TheVariants.{Clearing}
 use Rattle.task_settling.specs.declared.settling.TaskSettling.{TaskSettling}
@@ -61,6 +61,7 @@ pub record Did (h : ℕ) (up : Hosts) (task : Task) (d : Content) (p : Pool) (e 
   pub changes : OwnedPool h up p q
   pub images : ChangesOnly task p q
   pub tasks : (t : Id) → q.task t ≡ p.task t
+  pub only : IsSettlingChange task p q
   pub master : q.master ≡ p.master
   pub leads : Leads p h → Leads q h
   pub done : (sd i : Id) → IsRemoved sd i p → IsRemoved sd i q
@@ -86,6 +87,7 @@ module _ (h : ℕ) (up : Hosts) (d e : Content) (p : Pool) (master : Id) (task :
     changes = nothing_changed h up p;
     images = λ a j. inl refl;
     tasks = λ t. refl;
+    only = inl refl;
     master = refl;
     leads = λ lead. lead;
     done = λ a j removed. removed;
@@ -104,6 +106,7 @@ module _ (h : ℕ) (up : Hosts) (d e : Content) (p : Pool) (master : Id) (task :
       changes = nothing_changed h up p;
       images = λ a j. inl refl;
       tasks = λ t. refl;
+      only = inl refl;
       master = refl;
       leads = λ lead. lead;
       done = λ a j removed. removed;
@@ -118,6 +121,7 @@ module _ (h : ℕ) (up : Hosts) (d e : Content) (p : Pool) (master : Id) (task :
       changes = emptying_changed up h p sd image slot r names held.held known.leads;
       images = λ a j. changed a j (is_one a sd) (is_one j image);
       tasks = λ t. refl;
+      only = inr (inl (sd, (image, (slot, (r, names, refl)))));
       master = refl;
       leads = leads_stay p sd image slot r names h;
       done = removed_stays p sd image slot r names;
@@ -155,6 +159,7 @@ module _ (h : ℕ) (up : Hosts) (d e : Content) (p : Pool) (master : Id) (task :
       changes = did.changes;
       images = did.images;
       tasks = λ t _. did.tasks t;
+      only = did.only;
     }
 
   known_at : (q : Pool) (settled : Task) (count_is : ℕ) (next_c : ImageClearing) (next : TaskSettling) → IsAt master task settled (Clearing count_is next_c) next → KnowsTask h master task q → ClearsLast count_is task next_c e q

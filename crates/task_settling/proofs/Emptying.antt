@@ -129,7 +129,7 @@ module _ (p : Pool) (sd i : Id) (k : ℕ) (r : LeaseRecord) (names : NamesAt p s
   was_named a j n s x = record { slot = x.slot; lease = still_lease a n s x.lease; image = x.image }
 
   -- the role stays
-  role_sector : (m : Id) → q.sector m 0 ≡ p.sector m 0
+  pub role_sector : (m : Id) → q.sector m 0 ≡ p.sector m 0
   role_sector m = slot_same m 0 (λ _ at. first k at names.slot.low)
     where
       first : (k : ℕ) → 0 ≡ k → 0 < k → ⊥

@@ -122,6 +122,7 @@ module _ (no_zero : NoZeroLaw) (short : ShortLaw) (back : BackLaw) (unsynced : U
           changes = nothing_changed h up p;
           images = λ a j. inl refl;
           tasks = λ t _. refl;
+          only = inl refl;
         }
 
     settled_so : (turn : SettleTurn) → HasTaskText (file_of w) (Some settled) e
@@ -142,6 +143,7 @@ module _ (no_zero : NoZeroLaw) (short : ShortLaw) (back : BackLaw) (unsynced : U
           tasks = λ t other. other_stays up d e p master task.id stands known.master_is apart alive task s known.opened refl (not_open task.steps s settled_is) writes.behind
               (subst (λ (q : Place). HasTaskText q (Some settled) e) writes.file has) (no_zero settled (is_task s task)) (short settled (is_task s task))
               (back settled (record { task = is_task s task; ids = All-nil HasIds })) t other;
+          only = inr (inr (s, refl));
         }
 
     -- no task is open any more

@@ -1,17 +1,21 @@
 -- One step of a settling, on a disk that stands for a pool.
 -- Claim: what it changes are changes of the mark `settle` of the pool's machine, which has come to its end at `Done`.
-use Rattle.std.specs.Prelude.{◌≡◌, ◌≢◌, ◌⊎◌, ℕ, ◌+◌, List, ◌∷◌, Contains, true, Some}
+use Rattle.std.specs.Prelude.{◌≡◌, ◌≢◌, ◌⊎◌, ℕ, ◌+◌, List, ◌∷◌, Contains, true, Some, None}
 use Rattle.sd_names.specs.UpSet.{Hosts, is_up}
 use Rattle.sd_names.specs.declared.id.Id.{Id}
 use Rattle.sd_names.specs.declared.refusal.Refusal.TheVariants.{DiskFault}
+use Rattle.sd_names.specs.declared.task_state.TaskState.{TaskState}
 use Rattle.sd_names.specs.declared.turn.Turn.TheVariants.{More, Done, Ended}
 use Rattle.shared_disk.specs.Content.{Content}
 use Rattle.task_store.specs.declared.task.Task.{Task}
 use Rattle.task_store.specs.declared.undo.Undo.{Undo}
+use Rattle.lease_area.specs.declared.sector.LeaseRecord.{LeaseRecord}
+use Rattle.lease_area.specs.declared.sector.Sector.TheVariants.{Empty}
 use Rattle.pool_model.specs.Covered.{Keeps}
+use Rattle.pool_model.specs.Leases.{NamesAt}
 use Rattle.pool_model.specs.Marks.{Mark, repeat, settle}
 use Rattle.pool_model.specs.Owned.{OwnedChange, OwnedPool}
-use Rattle.pool_model.specs.Pool.{Pool}
+use Rattle.pool_model.specs.Pool.{Pool, put_image, put_sector, put_task}
 use Rattle.pool_model.specs.Rules.{Maker, Passing}
 use Rattle.pool_model.specs.Standing.{Stands}
 use Rattle.pool_model.specs.Tasks.{NoneOpen, SettledState, ended_task}
@@ -37,6 +41,14 @@ After h task faults (Ended _ refusal) e q = refusal ≡ DiskFault faults
 abbrev pub ChangesOnly : Task → Pool → Pool → Type 0
 ChangesOnly task p q = (sd i : Id) → (q.image sd i ≡ p.image sd i) ⊎ ((step : Undo) × Contains task.steps step × (cleared_by step ≡ Some (sd, i)))
 
+-- an image is gone, and its sector is empty
+abbrev pub DropsImage : Pool → Pool → Type 0
+DropsImage p q = (sd : Id) × ((i : Id) × ((k : ℕ) × ((r : LeaseRecord) × NamesAt p sd i k r × (q ≡ put_sector (put_image p sd i None) sd k Empty))))
+
+-- the pool is as it was, but that an image is gone with its sector, or that the task is settled
+abbrev pub IsSettlingChange : Task → Pool → Pool → Type 0
+IsSettlingChange task p q = (q ≡ p) ⊎ (DropsImage p q ⊎ ((s : TaskState) × (q ≡ put_task p task.id (Some (ended_task s task)))))
+
 -- A step took the disk from d, which stands for p, to e: that stands for a pool which moves of the machine reach, and which fits the
 -- answer. What the host keeps is true of it, and nothing was changed that isn't the host's to change, whatever verb it runs.
 pub record Stepped (h : ℕ) (up : Hosts) (task : Task) (faults : ℕ) (turn : SettleTurn) (d : Content) (p : Pool) (e : Content) : Type 0 where
@@ -49,6 +61,7 @@ pub record Stepped (h : ℕ) (up : Hosts) (task : Task) (faults : ℕ) (turn : S
   pub changes : OwnedPool h up p pool
   pub images : ChangesOnly task p pool
   pub tasks : (t : Id) → t ≢ task.id → pool.task t ≡ p.task t
+  pub only : IsSettlingChange task p pool
 
 abbrev pub SettlesTask : TaskSettling → ℕ → ℕ → SettleTurn → Content → Content → Type 0
 SettlesTask t h faults turn d e = (up : Hosts) (p : Pool) → is_up up h ≡ true → Stands up d p → HaveIds d → Knows h t d p → Stepped h up (task_of t) faults turn d p e
