@@ -1,0 +1,5 @@
+pub mod Recovering
+pub mod Knowing
+pub mod Steps
+pub mod Turns
+pub mod Laws
