@@ -1,0 +1,4 @@
+pub mod Left
+pub mod Takes
+pub mod Recovers
+pub mod Stable
