@@ -1,27 +1,15 @@
 // The sectors of a cluster of the top.
 ghost use Rattle.std.specs.Prelude.{◌≡◌, ◌<◌};
 ghost use Rattle.chain_reading.specs.Asked.{cluster_sectors, sectors_in};
-ghost use Rattle.chain_reading.specs.Knowing.{place_on};
 ghost use Rattle.commit_reading.specs.Pieces.{IsCluster, width_in};
 
 use crate::pieces::Pieces;
+use chain_reading::place_on;
 use layer_walk::cluster_bytes;
 use qcow_layer::Layer;
 use sd_names::Id;
 use volume_chain::{Chain, OpenVolume, Subchain};
 use volume_meta::VolumeRecord;
-
-/// How many volumes of a path stand before this one.
-pub(crate) fn place_on(path: &[Id], volume: &Id) -> usize
-    ensures { result ≡ place_on volume.now path.now }
-{
-    for (k, id) in path.iter().enumerate() {
-        if id.is(volume) {
-            return k;
-        }
-    }
-    path.len()
-}
 
 // How many sectors a cluster of a layer has.
 fn cluster_sectors(layer: &Layer) -> u64

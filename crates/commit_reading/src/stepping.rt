@@ -8,11 +8,11 @@ ghost use Rattle.commit_reading.specs.Pieces.{IsInside, count_of};
 ghost use Rattle.commit_reading.specs.Reading.{Asks, BeginsRead, IsFound, ReadsFront, ReadsIn, StaysIn, at_stage};
 ghost use Rattle.commit_reading.specs.declared.reading.Stage.TheVariants as stages;
 
-use crate::clusters::{pieces_of, place_on};
+use crate::clusters::pieces_of;
 use crate::looking::look;
 use crate::pieces::Pieces;
 use crate::reading::{CommitReading, Stage};
-use chain_reading::ReadPart;
+use chain_reading::{ReadPart, place_on};
 use qcow_format::Entry;
 use qcow_layer::Looking;
 use sd_names::{HostId, Turn};
