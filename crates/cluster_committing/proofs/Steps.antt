@@ -42,7 +42,7 @@ use Rattle.guest_writing.specs.Writing as writing
 use Rattle.guest_writing.specs.declared.guest.GuestWrite.{GuestWrite}
 use Rattle.cluster_committing.specs.Commit.{Commits, MayBegin}
 use Rattle.cluster_committing.specs.declared.commit.CommitCluster.{CommitCluster}
-use Rattle.cluster_committing.specs.Committing.{CommitsIn, CommitsPiece, HeldAtBegin, IsCommitted, KnowsReading, KnowsStage, KnowsWriting, Leaves, OthersStay}
+use Rattle.cluster_committing.specs.Committing.{CommitsIn, CommitsPiece, HeldAtBegin, IsCommitted, IsRefused, KnowsReading, KnowsStage, KnowsWriting, Leaves, OthersStay}
 use Rattle.cluster_committing.specs.Way.{IsReadingOf, StageTurn}
 use Rattle.cluster_committing.specs.declared.stage.Stage.{Stage}
 use Rattle.cluster_committing.specs.declared.stage.Stage.TheVariants.{Reading, Writing}
@@ -88,14 +88,8 @@ module _ (w : CommitReading) (c : Chain) (host : ℕ) (before after : List ℕ) 
     same = refl;
     comes = k.commit.comes;
     others = read_others w (sub_of w) (number_of w) l c x host start before d k (cases_lt (first_in c (sub_of w) (number_of w)) (from_of w c));
-    after = by turn now;
+    after = now;
   }
-    where
-      by : (turn : StageTurn) → MatchTurn turn (λ s. KnowsStage s (sub_of w) (number_of w) l c x host start after room d) (λ _. IsCommitted (sub_of w) (number_of w) l c host d) (λ _ refusal. IsFault refusal)
-          → MatchTurn turn (λ s. KnowsStage s (sub_of w) (number_of w) l c x host start after room d) (λ _. IsCommitted (sub_of w) (number_of w) l c host d) (λ _ refusal. IsFault refusal ⊎ ((piece : Laying) × writing.LacksRoom c c piece host refusal d d))
-      by (More s) now = now
-      by (Done b) now = now
-      by (Ended b refusal) now = inl now
 
   pub may : MayBeWritten c host d
   may = record { chain = k.commit.chain; settled = k.commit.settled; quiet = k.quiet }
@@ -252,7 +246,7 @@ module _ (p : Pieces) (g : GuestWrite) (sub : Subchain) (cluster : ℕ) (c next 
       }
 
   pub writes : (turn : StageTurn) (part : List ℕ) → writing.Leaves c k.piece (folder_of (dir_in (target_of k.chain)) k.before) d e
-      → MatchTurn turn (λ s. KnowsStage s sub cluster l next x host start part room' e) (λ _. IsCommitted sub cluster l next host e) (λ _ refusal. IsFault refusal ⊎ ((piece : Laying) × writing.LacksRoom c next piece host refusal d e))
+      → MatchTurn turn (λ s. KnowsStage s sub cluster l next x host start part room' e) (λ _. IsCommitted sub cluster l next host e) (λ _ refusal. IsRefused (Writing p g) sub c next host refusal d e)
       → Leaves (Writing p g) sub cluster l c next x host start part room' turn d e
   writes turn part left now =
       let comes = commits.piece_comes k.piece l start (folder_of (dir_in (target_of k.chain)) k.before) (folder_of (dir_in (target_of c)) e) k.commit.comes k.laid left.comes in
@@ -289,7 +283,7 @@ write_ended p g b b' refusal sub cluster c next host faults piece room room' d e
     let here : KnowsWriting p g sub cluster l c x host start piece room d = subst (λ (b : List ℕ). KnowsWriting p g sub cluster l c x host start b room d) front_is k in
     let left = on here.piece x (volumes_in (dir_in (target_of here.chain)) here.before) (folder_of (dir_in (target_of here.chain)) here.before) here.write here.bytes in
     writes p g sub cluster c next host faults l x start piece room room' d e here kept inside some size (Ended b' refusal) part left.leaves
-    (elim left.after [ inl fault ↦ inl (fault_is faults refusal fault) | inr short ↦ inr (here.piece, short) ])
+    (elim left.after [ inl fault ↦ inl (fault_is faults refusal fault) | inr short ↦ inr (here.piece, record { volume = here.volume ∙ here.commit.of.volume; at = here.at; length_is = ap (λ (b : List ℕ). length b) here.bytes ∙ size }, short) ])
 
 -- ---- in public words
 

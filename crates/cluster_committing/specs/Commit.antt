@@ -89,7 +89,7 @@ pub record CommitLeaves (w : CommitCluster) (l : Laying) (c next : Chain) (x : V
   pub after : MatchTurn turn
       (λ more. Knows more l next x host start part room e)
       (λ _. IsCommitted w.sub w.cluster l next host e)
-      (λ _ refusal. IsRefused c next host refusal d e)
+      (λ _ refusal. IsRefused w.stage w.sub c next host refusal d e)
 
 abbrev pub Commits : CommitCluster → Chain → Chain → ℕ → List ℕ → List ℕ → List ℕ → List ℕ → CommitTurn → Content → Content → Type 0
 Commits w c next host before after room_before room_after turn d e = (l : Laying) (x : VolumeRecord) (start : Folder) → Knows w l c x host start before room_before d

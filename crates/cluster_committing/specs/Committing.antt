@@ -1,5 +1,5 @@
 -- What a commit knows between its steps, stage by stage, and what a step leaves.
-use Rattle.std.specs.Prelude.{◌≡◌, ◌≢◌, ◌⊎◌, ℕ, ◌<◌, ◌≤◌, true, List, Contains}
+use Rattle.std.specs.Prelude.{◌≡◌, ◌≢◌, ◌⊎◌, ℕ, ◌*◌, ◌<◌, ◌≤◌, true, List, length, Contains}
 use Rattle.sd_names.specs.Turn.{MatchTurn}
 use Rattle.sd_names.specs.declared.id.Id.{Id}
 use Rattle.sd_names.specs.declared.refusal.Refusal.{Refusal}
@@ -23,7 +23,7 @@ use Rattle.volume_chain.specs.declared.subchain.Subchain.{Subchain}
 use Rattle.chain_reading.specs.Knowing.{place_on}
 use Rattle.commit_reading.specs.Knowing.{HoldsNone}
 use Rattle.commit_reading.specs.Knowing as reading
-use Rattle.commit_reading.specs.Pieces.{first_in, first_of, front}
+use Rattle.commit_reading.specs.Pieces.{count_of, first_in, first_of, front}
 use Rattle.commit_reading.specs.Reading.{from_of}
 use Rattle.commit_reading.specs.declared.pieces.Pieces.{Pieces}
 use Rattle.commit_reading.specs.declared.reading.CommitReading.{CommitReading}
@@ -87,9 +87,16 @@ pub record IsCommitted (sub : Subchain) (cluster : ℕ) (l : Laying) (c : Chain)
   pub may : MayBeWritten c host e
   pub done : HoldsNone c sub cluster (volumes_in (dir_in (target_of c)) e) ⊎ OnEachFolder (folder_of (dir_in (target_of c)) e) (λ O. HoldsPart l (volumes_of O))
 
--- the disk's fault; or want of room for a piece, which changes nothing
-abbrev pub IsRefused : Chain → Chain → ℕ → Refusal → Content → Content → Type 0
-IsRefused c next host refusal d e = IsFault refusal ⊎ ((piece : Laying) × LacksRoom c next piece host refusal d e)
+-- the next of these pieces, laid over the base
+pub record IsNextLaid (sub : Subchain) (p : Pieces) (piece : Laying) : Type 0 where
+  pub volume : piece.volume ≡ sub.base
+  pub at : piece.part.at ≡ first_of p
+  pub length_is : length piece.part.bytes ≡ 512 * count_of p
+
+-- the disk's fault; or want of room for the piece that is written, which changes nothing
+abbrev pub IsRefused : Stage → Subchain → Chain → Chain → ℕ → Refusal → Content → Content → Type 0
+IsRefused (Reading w) sub c next host refusal d e = IsFault refusal
+IsRefused (Writing p g) sub c next host refusal d e = IsFault refusal ⊎ ((piece : Laying) × IsNextLaid sub p piece × LacksRoom c next piece host refusal d e)
 
 -- No folder and no file but the base's is changed; each outcome comes from one of the begin, over which sectors of the cluster may be
 -- laid in the base; and each other LEGAL volume reads as it did: after a step that failed too.
@@ -101,7 +108,7 @@ pub record Leaves (stage : Stage) (sub : Subchain) (cluster : ℕ) (l : Laying) 
   pub after : MatchTurn turn
       (λ s. KnowsStage s sub cluster l next x host start part room e)
       (λ _. IsCommitted sub cluster l next host e)
-      (λ _ refusal. IsRefused c next host refusal d e)
+      (λ _ refusal. IsRefused stage sub c next host refusal d e)
 
 abbrev pub CommitsIn : Stage → Subchain → ℕ → Chain → Chain → ℕ → List ℕ → List ℕ → List ℕ → List ℕ → StageTurn → Content → Content → Type 0
 CommitsIn stage sub cluster c next host before after room_before room_after turn d e = (l : Laying) (x : VolumeRecord) (start : Folder) → KnowsStage stage sub cluster l c x host start before room_before d

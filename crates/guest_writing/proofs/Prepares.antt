@@ -135,6 +135,7 @@ module _ (v : Id) (at : ℕ) (c next : Chain) (index : ℕ) (p : preparings.Prep
         short = inr (record {
           index = index;
           layer = k.layer;
+          path = k.write.path;
           opened = k.write.layer;
           file = k.file;
           there = k.write.there;

@@ -15,7 +15,7 @@ use Rattle.layer_placing.specs.Chosen.{IsShort}
 use Rattle.chain_model.specs.Folder.{Folder, Volumes, folder_of}
 use Rattle.chain_laws.specs.Laid.{Laying}
 use Rattle.chain_laws.specs.Written.{ComesWritten}
-use Rattle.volume_chain.specs.Chain.{dir_in, open_in, place_in, target_of}
+use Rattle.volume_chain.specs.Chain.{dir_in, open_in, path_in, place_in, target_of}
 use Rattle.volume_chain.specs.declared.chain.Chain.{Chain}
 use Rattle.volume_chain.specs.declared.volumes.OpenVolume.TheVariants.{Cow}
 use Rattle.raw_writing.specs.Image.{IsOnMedium, OnlyChanges}
@@ -33,10 +33,11 @@ pub record IsRawShort (c : Chain) (l : Laying) (room wanted : ℕ) (d : Content)
   pub room_is : room ≡ 512 * file.size
   pub wanted_is : wanted ≡ 512 * l.part.at + length l.part.bytes
 
--- fewer clusters of the layer's file are free than the write of the part needs
+-- fewer clusters of the file of the volume's layer are free than the write of the part needs
 pub record IsLayerShort (c : Chain) (l : Laying) (host room wanted : ℕ) (d : Content) : Type 0 where
   pub index : ℕ
   pub layer : Layer
+  pub path : slice_get (path_in c) index ≡ Some l.volume
   pub opened : slice_get (open_in c) index ≡ Some (Cow layer)
   pub file : File
   pub there : d.file (place_kept layer) ≡ Some file
